@@ -1,0 +1,9 @@
+pub mod Bytes
+pub mod Masks
+pub mod Memory
+pub mod Sound
+pub mod Answers
+pub mod Calls
+pub mod Next
+pub mod Refusals
+pub mod Worked
