@@ -1,0 +1,1 @@
+// No code: laws that join the rules to the bytes that the code reads and writes.
