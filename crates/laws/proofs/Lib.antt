@@ -1,0 +1,7 @@
+pub mod Slots
+pub mod Desks
+pub mod First
+pub mod Search
+pub mod Looks
+pub mod Walks
+pub mod Cases

@@ -1,0 +1,62 @@
+-- The search from the start is the search from here.
+use mathlib.Core.Path.{_≡_, refl, sym, ap, _∙_}
+use Prim.Native.Nat.{_≤_, _-_, _/_, _+_, _*_}
+use native.Mathlib.Omega.{arith}
+use lib.ListN.{length}
+use Rattle.rules.specs.Calls.{first}
+use Rattle.rules.specs.Memory.{slotsOf}
+use Rattle.laws.specs.Search.{bears}
+use Rattle.laws.proofs.First.{first-hit, first-miss, first-end}
+use Rattle.laws.proofs.Search.{bears-it, bears-not}
+use borrow.Author.Needs.{needs}
+use Rattle.slots.proofs.bearing.Statement.{statement}
+use Rattle.slots.proofs.bearing.Tie as tie
+
+abbrev Inv-loop : tie.InvT-loop
+Inv-loop slots end number i₀ i = (i ≤ end) × (first (bears (slotsOf slots) number) i₀ (length slots / 64 - i₀) ≡ first (bears (slotsOf slots) number) i (length slots / 64 - i))
+
+abbrev μ-loop : tie.MeasureT-loop
+μ-loop slots end number i₀ i = end - i
+
+loop-holds : tie.Need-loop-holds Inv-loop μ-loop
+loop-holds c =
+    (search needs, refl)
+
+loop-again : tie.Need-loop-again Inv-loop μ-loop
+loop-again c =
+    let loop = c .before .before .before .loop in
+    let start = c .before .before .before .before .before in
+    let loop-test = c .before .before .loop-test in
+    let if1 = c .if1 in
+    let get32 = c .before .get32 in
+    (omega arith, loop .inv .1 ∙ first-miss (bears (slotsOf (start .args .slots .now)) (start .args .k .0)) (loop .i) (length (start .args .slots .now) / 64) (loop-test .taken) (bears-not (start .args .slots .now) (start .args .k .0) (loop .i) (loop-test .taken) (λ e. if1 .left (get32 .ensures ∙ e))))
+
+returns : tie.Need-returns Inv-loop μ-loop
+returns c =
+    let loop = c .before .loop in
+    let start = c .before .before .before in
+    sym (loop .inv .1 ∙ first-end (bears (slotsOf (start .args .slots .now)) (start .args .k .0)) (loop .i) (length (start .args .slots .now) / 64) (omega arith))
+
+returns-2 : tie.Need-returns-2 Inv-loop μ-loop
+returns-2 c =
+    let loop = c .before .before .before .loop in
+    let start = c .before .before .before .before .before in
+    let loop-test = c .before .before .loop-test in
+    let get32 = c .before .get32 in
+    let if1 = c .if1 in
+    sym (loop .inv .1 ∙ first-hit (bears (slotsOf (start .args .slots .now)) (start .args .k .0)) (loop .i) (length (start .args .slots .now) / 64) (loop-test .taken) (bears-it (start .args .slots .now) (start .args .k .0) (loop .i) (loop-test .taken) (sym (get32 .ensures) ∙ if1 .taken)))
+
+pub bearing-spec : {M : Type 1} → statement M
+bearing-spec =
+    tie.close
+    (tie.spec
+    Inv-loop
+    μ-loop
+    loop-holds
+    (λ c. search needs)
+    (λ c κs. search needs)
+    (λ c. search needs)
+    (λ c. search needs)
+    loop-again
+    returns
+    returns-2)

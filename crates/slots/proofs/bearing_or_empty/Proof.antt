@@ -1,0 +1,64 @@
+-- The search from the start is the search from here.
+use mathlib.Core.Path.{_≡_, refl, sym, ap, _∙_}
+use Prim.Native.Nat.{_≤_, _-_, _/_, _+_, _*_}
+use native.Mathlib.Omega.{arith}
+use lib.ListN.{length}
+use Rattle.rules.specs.Calls.{first}
+use Rattle.rules.specs.Memory.{slotsOf}
+use Rattle.laws.specs.Search.{bearsOrEmpty}
+use Rattle.laws.proofs.First.{first-hit, first-miss, first-end}
+use native.Mathlib.Nat.{sub-zero}
+use Rattle.laws.proofs.Search.{bears-or-empty-is}
+use borrow.Author.Needs.{needs}
+use Rattle.slots.proofs.bearing_or_empty.Statement.{statement}
+use Rattle.slots.proofs.bearing_or_empty.Tie as tie
+
+abbrev Inv-loop : tie.InvT-loop
+Inv-loop slots end number i₀ i = (i ≤ end) × (first (bearsOrEmpty (slotsOf slots) number) 0 (length slots / 64) ≡ first (bearsOrEmpty (slotsOf slots) number) i (length slots / 64 - i))
+
+abbrev μ-loop : tie.MeasureT-loop
+μ-loop slots end number i₀ i = end - i
+
+loop-holds : tie.Need-loop-holds Inv-loop μ-loop
+loop-holds c =
+    let start = c .before in
+    (search needs, rw (sub-zero (length (start .args .slots .now) / 64)) refl)
+
+loop-again : tie.Need-loop-again Inv-loop μ-loop
+loop-again c =
+    let loop = c .before .before .before .loop in
+    let start = c .before .before .before .before .before in
+    let loop-test = c .before .before .loop-test in
+    let get32 = c .before .get32 in
+    let if1 = c .if1 in
+    (omega arith, loop .inv .1 ∙ first-miss (bearsOrEmpty (slotsOf (start .args .slots .now)) (start .args .k .0)) (loop .i) (length (start .args .slots .now) / 64) (loop-test .taken) (bears-or-empty-is (start .args .slots .now) (start .args .k .0) (loop .i) (loop-test .taken) ∙ rw (← get32 .ensures) (if1 .left)))
+
+returns : tie.Need-returns Inv-loop μ-loop
+returns c =
+    let loop = c .before .loop in
+    let start = c .before .before .before in
+    sym (loop .inv .1 ∙ first-end (bearsOrEmpty (slotsOf (start .args .slots .now)) (start .args .k .0)) (loop .i) (length (start .args .slots .now) / 64) (omega arith))
+
+returns-2 : tie.Need-returns-2 Inv-loop μ-loop
+returns-2 c =
+    let loop = c .before .before .before .loop in
+    let start = c .before .before .before .before .before in
+    let loop-test = c .before .before .loop-test in
+    let get32 = c .before .get32 in
+    let if1 = c .if1 in
+    sym (loop .inv .1 ∙ first-hit (bearsOrEmpty (slotsOf (start .args .slots .now)) (start .args .k .0)) (loop .i) (length (start .args .slots .now) / 64) (loop-test .taken) (bears-or-empty-is (start .args .slots .now) (start .args .k .0) (loop .i) (loop-test .taken) ∙ rw (← get32 .ensures) (if1 .taken)))
+
+pub bearing-or-empty-spec : {M : Type 1} → statement M
+bearing-or-empty-spec =
+    tie.close
+    (tie.spec
+    Inv-loop
+    μ-loop
+    loop-holds
+    (λ c. search needs)
+    (λ c κs. search needs)
+    (λ c. search needs)
+    (λ c. search needs)
+    loop-again
+    returns
+    returns-2)
