@@ -44,8 +44,18 @@ module _ (d : List ℕ) (h : length d ≡ 1088) where
       let n : length (toLe 4 g) ≡ 4 = length-toLe 4 g in
       let lo : (w i : ℕ) → i + w ≤ 12 → field w i (put d 12 (toLe 4 g)) ≡ field w i d = λ w i e. field-put-before d 12 (toLe 4 g) w i e (omega arith) in
       let hi : (w i : ℕ) → 16 ≤ i → field w i (put d 12 (toLe 4 g)) ≡ field w i d = λ w i e. field-put-after d 12 (toLe 4 g) w i (omega arith) (omega arith) in
-      rw (cards-same d 12 (toLe 4 g) h (omega arith), lo 4 0 (omega arith), lo 4 4 (omega arith), lo 4 8 (omega arith), hi 8 16 (omega arith), hi 8 24 (omega arith), hi 8 32 (omega arith), hi 24 40 (omega arith),
-          field-put-same d 12 (toLe 4 g) 4 (sym n) (omega arith), le-toLe 4 g q) refl
+      rw (
+        cards-same d 12 (toLe 4 g) h (omega arith),
+        lo 4 0 (omega arith),
+        lo 4 4 (omega arith),
+        lo 4 8 (omega arith),
+        hi 8 16 (omega arith),
+        hi 8 24 (omega arith),
+        hi 8 32 (omega arith),
+        hi 24 40 (omega arith),
+        field-put-same d 12 (toLe 4 g) 4 (sym n) (omega arith),
+        le-toLe 4 g q,
+      ) refl
 
 -- ---- the masks
 
@@ -67,11 +77,11 @@ masks-puts d m h =
 
 -- a number inside what was written, and one at its end
 module _ (w : ℕ) (a : List ℕ) (o : ℕ) (e : length a ≡ o) (v : ℕ) (small : v < 256 ^ w) where
-  inside : (b : List ℕ) → le (field w o (a ++ (toLe w v ++ b))) ≡ v
+  pub inside : (b : List ℕ) → le (field w o (a ++ (toLe w v ++ b))) ≡ v
   unfolding field
   inside b = rw (drop-at a (toLe w v ++ b) o e, take-at (toLe w v) b w (length-toLe w v)) (le-toLe w v small)
 
-  at-end : le (field w o (a ++ toLe w v)) ≡ v
+  pub at-end : le (field w o (a ++ toLe w v)) ≡ v
   unfolding field
   at-end = rw (drop-at a (toLe w v) o e, take-all w (toLe w v) (omega (arith, length-toLe w v))) (le-toLe w v small)
 
@@ -89,8 +99,17 @@ masks-put d m h q =
     let n : length (masksBytes m) ≡ 24 = length-masks m in
     let lo : (w i : ℕ) → i + w ≤ 16 → field w i (put d 16 (masksBytes m)) ≡ field w i d = λ w i e. field-put-before d 16 (masksBytes m) w i e (omega arith) in
     let on : (o : ℕ) → o + 8 ≤ 24 → field 8 (16 + o) (put d 16 (masksBytes m)) ≡ field 8 o (masksBytes m) = λ o e. field-put-in d 16 (masksBytes m) 8 o (omega arith) (omega arith) in
-    rw (cards-same d 16 (masksBytes m) h (omega arith), lo 4 0 (omega arith), lo 4 4 (omega arith), lo 4 8 (omega arith), lo 4 12 (omega arith), on 0 (omega arith), on 8 (omega arith), on 16 (omega arith),
-        field-put-after d 16 (masksBytes m) 24 40 (omega arith) (omega arith)) (ap (λ (x : Masks). desk (u32At d 0) (u32At d 4) (u32At d 8) (u32At d 12) x (field 24 40 d) (each (cardAt d) 0 64)) (masks-back m q))
+    rw (
+      cards-same d 16 (masksBytes m) h (omega arith),
+      lo 4 0 (omega arith),
+      lo 4 4 (omega arith),
+      lo 4 8 (omega arith),
+      lo 4 12 (omega arith),
+      on 0 (omega arith),
+      on 8 (omega arith),
+      on 16 (omega arith),
+      field-put-after d 16 (masksBytes m) 24 40 (omega arith) (omega arith),
+    ) (ap (λ (x : Masks). desk (u32At d 0) (u32At d 4) (u32At d 8) (u32At d 12) x (field 24 40 d) (each (cardAt d) 0 64)) (masks-back m q))
 
 -- ---- a card
 
@@ -114,7 +133,7 @@ card-puts d at c h =
     let n2 : length (t ++ p) ≡ 8 = length-append t p ∙ omega arith in
     let n3 : length ((t ++ p) ++ g) ≡ 12 = length-append (t ++ p) g ∙ omega arith in
     rw (put-put d at t p (at + 4) (omega arith) (omega arith), put-put d at (t ++ p) g (at + 8) (omega arith) (omega arith), put-put d at ((t ++ p) ++ g) (toLe 4 (c .rest)) (at + 12) (omega arith) (omega arith))
-      (ap (put d at) (append-assoc (t ++ p) g (toLe 4 (c .rest)) ∙ append-assoc t p (g ++ toLe 4 (c .rest))))
+    (ap (put d at) (append-assoc (t ++ p) g (toLe 4 (c .rest)) ∙ append-assoc t p (g ++ toLe 4 (c .rest))))
 
 card-back : (c : Card) → Small32 c → card (le (field 4 0 (cardBytes c))) (le (field 4 4 (cardBytes c))) (le (field 4 8 (cardBytes c))) (le (field 4 12 (cardBytes c))) ≡ c
 card-back c q =

@@ -5,3 +5,5 @@ pub mod Search
 pub mod Looks
 pub mod Walks
 pub mod Cases
+pub mod Effects
+pub mod Opens

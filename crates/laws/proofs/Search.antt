@@ -83,6 +83,7 @@ equal-is-off stable status p = go (eqb (bit status p) (bit stable p)) refl
   where
     x : bit (bitXor stable status) p ≡ (bit stable p + bit status p) % 2
     x = bit-xor stable status p
+
     go : (b : Bool) → eqb (bit status p) (bit stable p) ≡ b → b ≡ off (bitXor stable status) p
     go true e = sym (eq-eqb (bit (bitXor stable status) p) 0 (omega (arith, x, eqb-true (bit status p) (bit stable p) e, bit-low stable p)))
     go false e = sym (ne-eqb (bit (bitXor stable status) p) 0 (λ z. eqb-false (bit status p) (bit stable p) e (omega (arith, x, bit-low stable p, bit-low status p))))

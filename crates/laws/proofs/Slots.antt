@@ -38,8 +38,15 @@ field-field n o m a l h k =
     (λ j q.
     let z : j < n = rw y at q in
     let e : a + (o + j) ≡ a + o + j = omega arith in
-    rw (getD-take n (drop o (take m (drop a l))) j 0 z, getD-take n (drop (a + o) l) j 0 z, getD-drop o (take m (drop a l)) j 0, getD-take m (drop a l) (o + j) 0 (omega arith), getD-drop a l (o + j) 0,
-        getD-drop (a + o) l j 0, e) refl)
+    rw (
+      getD-take n (drop o (take m (drop a l))) j 0 z,
+      getD-take n (drop (a + o) l) j 0 z,
+      getD-drop o (take m (drop a l)) j 0,
+      getD-take m (drop a l) (o + j) 0 (omega arith),
+      getD-drop a l (o + j) 0,
+      getD-drop (a + o) l j 0,
+      e,
+    ) refl)
 
 -- ---- a write of vs at offset o of slot p
 
@@ -55,7 +62,7 @@ module _ (l : List ℕ) (p o : ℕ) (vs : List ℕ) (fits : o + length vs ≤ 64
   unfolding u32At u64At
   other j d =
       let off : (n k : ℕ) → k + n ≤ 64 → field n (j * 64 + k) (put l (p * 64 + o) vs) ≡ field n (j * 64 + k) l =
-          λ n k q. apart n (j * 64 + k) l (p * 64 + o) vs (omega arith) (beside j d k n q) in
+      λ n k q. apart n (j * 64 + k) l (p * 64 + o) vs (omega arith) (beside j d k n q) in
       rw (rw (add-zero (j * 64)) at (off 4 0 (omega arith)), off 52 4 (omega arith), off 8 56 (omega arith)) refl
 
   pub slots-put : slotsOf (put l (p * 64 + o) vs) ≡ set (slotsOf l) p (slotAt (put l (p * 64 + o) vs) p)
@@ -73,31 +80,45 @@ module _ (l : List ℕ) (p : ℕ) (there : p < length l / 64) where
   number-put k s =
       let n : length (toLe 4 k) ≡ 4 = length-toLe 4 k in
       at-0 (toLe 4 k) (omega arith)
-      ∙ rw (field-put-same l (p * 64) (toLe 4 k) 4 (sym n) (omega arith), field-put-after l (p * 64) (toLe 4 k) 52 (p * 64 + 4) (omega arith) (omega arith),
-            field-put-after l (p * 64) (toLe 4 k) 8 (p * 64 + 56) (omega arith) (omega arith), le-toLe 4 k s) refl
+      ∙ rw (
+        field-put-same l (p * 64) (toLe 4 k) 4 (sym n) (omega arith),
+        field-put-after l (p * 64) (toLe 4 k) 52 (p * 64 + 4) (omega arith) (omega arith),
+        field-put-after l (p * 64) (toLe 4 k) 8 (p * 64 + 56) (omega arith) (omega arith),
+        le-toLe 4 k s,
+      ) refl
 
   pub body-put : (b : List ℕ) → length b ≡ 52 → slotsOf (put l (p * 64 + 4) b) ≡ set (slotsOf l) p (slot (u32At l (p * 64)) b (u64At l (p * 64 + 56)))
   unfolding u32At u64At
   body-put b e =
       slots-put l p 4 b (omega arith) there
-      ∙ rw (field-put-before l (p * 64 + 4) b 4 (p * 64) (omega arith) (omega arith), field-put-same l (p * 64 + 4) b 52 (sym e) (omega arith),
-            field-put-after l (p * 64 + 4) b 8 (p * 64 + 56) (omega arith) (omega arith)) refl
+      ∙ rw (
+        field-put-before l (p * 64 + 4) b 4 (p * 64) (omega arith) (omega arith),
+        field-put-same l (p * 64 + 4) b 52 (sym e) (omega arith),
+        field-put-after l (p * 64 + 4) b 8 (p * 64 + 56) (omega arith) (omega arith),
+      ) refl
 
   pub mask-put : (m : ℕ) → m < 2 ^ 64 → slotsOf (put64 l (p * 64 + 56) m) ≡ set (slotsOf l) p (slot (u32At l (p * 64)) (field 52 (p * 64 + 4) l) m)
   unfolding u32At u64At put64
   mask-put m s =
       let n : length (toLe 8 m) ≡ 8 = length-toLe 8 m in
       slots-put l p 56 (toLe 8 m) (omega arith) there
-      ∙ rw (field-put-before l (p * 64 + 56) (toLe 8 m) 4 (p * 64) (omega arith) (omega arith), field-put-before l (p * 64 + 56) (toLe 8 m) 52 (p * 64 + 4) (omega arith) (omega arith),
-            field-put-same l (p * 64 + 56) (toLe 8 m) 8 (sym n) (omega arith), le-toLe 8 m s) refl
+      ∙ rw (
+        field-put-before l (p * 64 + 56) (toLe 8 m) 4 (p * 64) (omega arith) (omega arith),
+        field-put-before l (p * 64 + 56) (toLe 8 m) 52 (p * 64 + 4) (omega arith) (omega arith),
+        field-put-same l (p * 64 + 56) (toLe 8 m) 8 (sym n) (omega arith),
+        le-toLe 8 m s,
+      ) refl
 
   -- the 56 bytes of number and body
   pub version-put : (vs : List ℕ) → length vs ≡ 56 → slotsOf (put l (p * 64) vs) ≡ set (slotsOf l) p (slot (u32At vs 0) (field 52 4 vs) (u64At l (p * 64 + 56)))
   unfolding u32At u64At
   version-put vs e =
       at-0 vs (omega arith)
-      ∙ rw (rw (add-zero (p * 64)) at (field-put-in l (p * 64) vs 4 0 (omega arith) (omega arith)), field-put-in l (p * 64) vs 52 4 (omega arith) (omega arith),
-            field-put-after l (p * 64) vs 8 (p * 64 + 56) (omega arith) (omega arith)) refl
+      ∙ rw (
+        rw (add-zero (p * 64)) at (field-put-in l (p * 64) vs 4 0 (omega arith) (omega arith)),
+        field-put-in l (p * 64) vs 52 4 (omega arith) (omega arith),
+        field-put-after l (p * 64) vs 8 (p * 64 + 56) (omega arith) (omega arith),
+      ) refl
 
   -- a freed slot
   pub clear-put : slotsOf (put l (p * 64) (replicate 64 0)) ≡ set (slotsOf l) p free

@@ -88,7 +88,11 @@ pub fn waiting(slots: &[u8], flip: u64, p: Position) -> u32
     let mut i: usize = 0;
     while i < end {
         let at = i * 64;
-        n += one_if(waits(layout::get32(slots, at), flip ^ layout::get64(slots, at + 56), p));
+        n += one_if(waits(
+            layout::get32(slots, at),
+            flip ^ layout::get64(slots, at + 56),
+            p,
+        ));
         i += 1;
     }
     n

@@ -1,0 +1,116 @@
+use mathlib.Core.Path.{_≡_, refl, sym, ap, _∙_}
+use native.Mathlib.Omega.{arith}
+use Rattle.rules.specs.Answers.{changeSays}
+use Rattle.laws.proofs.Cases.{modify-zero, modify-kind}
+use Rattle.rules.specs.Memory.{lent, read}
+use Rattle.changes.proofs.Ways.{modifies-absent, modifies-unawaited, modifies-shelved, modifies-room}
+use borrow.Author.Needs.{needs}
+use Rattle.changes.proofs.modify.Statement.{statement}
+use Rattle.changes.proofs.modify.Tie as tie
+
+returns : tie.Need-returns
+unfolding changeSays
+returns c =
+    let start = c .before .before .before .before .before .before in
+    let if1 = c .if1 in
+    modify-zero (read (lent (start .args .desk .now) (start .args .table .now) (start .args .shelf .now))) (start .args .k .0) (start .args .body .now) (if1 .taken)
+
+returns-2 : tie.Need-returns-2
+unfolding changeSays
+returns-2 c =
+    let start = c .before .before .before .before .before .before .before .before .before .before .before .before .before .before .before .before .before .before .before .before .before .before .before in
+    let bearing = c .before .before .before .before .before .before .before .before .before .before .before .before .before .bearing in
+    let if3 = c .before .before .before .before .before .before .before .before .before .before .before .before .if3 in
+    let masks-at = c .before .before .before .before .before .before .before .before .before .before .before .masks-at in
+    let enum-told = c .before .before .before .before .enum-told in
+    let keep = c .before .before .before .before .before .before .before .before .keep in
+    let if1 = c .before .before .before .before .before .before .before .before .before .before .before .before .before .before .before .before .before .if1 in
+    let kind-right = c .before .before .before .before .before .before .before .before .before .before .before .before .before .before .before .before .kind-right in
+    let if2 = c .before .before .before .before .before .before .before .before .before .before .before .before .before .before .before .if2 in
+    let copy-body = c .before .before .copy-body in
+    modifies-unawaited (start .args .desk .now) (start .args .table .now) (start .args .shelf .now) (start .args .k .0) (bearing .result .0) (bearing .ensures) (if3 .taken) (masks-at .ensures) (rw (enum-told .given .1) at (keep .ensures)) (start .args .body .now) (if1 .left) (sym (kind-right .ensures) ∙ if2 .taken) (start .pre .1) (copy-body .ensures)
+
+returns-3 : tie.Need-returns-3
+unfolding changeSays
+returns-3 c =
+    let start = c .before .before .before .before .before .before .before .before .before .before .before .before .before .before .before .before .before .before .before .before .before .before .before .before .before .before .before .before in
+    let bearing = c .before .before .before .before .before .before .before .before .before .before .before .before .before .before .before .before .before .before .bearing in
+    let if3 = c .before .before .before .before .before .before .before .before .before .before .before .before .before .before .before .before .before .if3 in
+    let masks-at = c .before .before .before .before .before .before .before .before .before .before .before .before .before .before .before .before .masks-at in
+    let enum-told2 = c .before .before .before .before .before .before .before .before .before .enum-told2 in
+    let keep = c .before .before .before .before .before .before .before .before .before .before .before .before .before .keep in
+    let shared-slice-known = c .before .before .before .before .before .before .before .before .before .before .before .before .before .before .before .before .before .before .before .before .before .before .before .before .before .before .before .shared-slice-known in
+    let slice-known = c .before .before .before .before .before .before .before .before .before .before .before .before .before .before .before .before .before .before .before .before .before .before .before .before .before .before .slice-known in
+    let if1 = c .before .before .before .before .before .before .before .before .before .before .before .before .before .before .before .before .before .before .before .before .before .before .if1 in
+    let kind-right = c .before .before .before .before .before .before .before .before .before .before .before .before .before .before .before .before .before .before .before .before .before .kind-right in
+    let if2 = c .before .before .before .before .before .before .before .before .before .before .before .before .before .before .before .before .before .before .before .before .if2 in
+    let copy-body2 = c .before .before .before .before .before .before .before .copy-body2 in
+    let new-status = c .before .before .before .new-status in
+    let set64 = c .before .before .set64 in
+    modifies-shelved (start .args .desk .now) (start .args .table .now) (start .args .shelf .now) (start .args .k .0) (bearing .result .0) (bearing .ensures) (if3 .taken) (masks-at .ensures) (rw (enum-told2 .given .1) at (keep .ensures)) (start .pre .0) (λ j. omega (arith, shared-slice-known .given j)) (λ j. omega (arith, slice-known .given j)) (start .args .body .now) (if1 .left) (sym (kind-right .ensures) ∙ if2 .taken) (start .pre .1) (copy-body2 .ensures) (new-status .ensures) (set64 .ensures)
+
+returns-4 : tie.Need-returns-4
+unfolding changeSays
+returns-4 c =
+    let start = c .before .before .before .before .before .before .before .before .before .before .before .before .before .before .before .before .before .before .before in
+    let bearing = c .before .before .before .before .before .before .before .before .before .bearing in
+    let if3 = c .before .before .before .before .before .before .before .before .if3 in
+    let masks-at = c .before .before .before .before .before .before .before .masks-at in
+    let enum-told3 = c .enum-told3 in
+    let keep = c .before .before .before .before .keep in
+    let if1 = c .before .before .before .before .before .before .before .before .before .before .before .before .before .if1 in
+    let kind-right = c .before .before .before .before .before .before .before .before .before .before .before .before .kind-right in
+    let if2 = c .before .before .before .before .before .before .before .before .before .before .before .if2 in
+    modifies-room (start .args .desk .now) (start .args .table .now) (start .args .shelf .now) (start .args .k .0) (bearing .result .0) (bearing .ensures) (if3 .taken) (masks-at .ensures) (rw (enum-told3 .given .1) at (keep .ensures)) (start .args .body .now) (if1 .left) (sym (kind-right .ensures) ∙ if2 .taken)
+
+returns-5 : tie.Need-returns-5
+unfolding changeSays
+returns-5 c =
+    let start = c .before .before .before .before .before .before .before .before .before .before .before in
+    let bearing = c .before .bearing in
+    let if1 = c .before .before .before .before .before .if1 in
+    let kind-right = c .before .before .before .before .kind-right in
+    let if2 = c .before .before .before .if2 in
+    modifies-absent (start .args .desk .now) (start .args .table .now) (start .args .shelf .now) (start .args .k .0) (bearing .result .0) (bearing .ensures) (start .args .body .now) (if1 .left) (sym (kind-right .ensures) ∙ if2 .taken) (omega arith)
+
+returns-6 : tie.Need-returns-6
+unfolding changeSays
+returns-6 c =
+    let start = c .before .before .before .before .before .before .before .before in
+    let if1 = c .before .before .if1 in
+    let kind-right = c .before .kind-right in
+    let if2 = c .if2 in
+    modify-kind (read (lent (start .args .desk .now) (start .args .table .now) (start .args .shelf .now))) (start .args .k .0) (start .args .body .now) (if1 .left) (sym (kind-right .ensures) ∙ if2 .left)
+
+pub modify-spec : {M : Type 1} → statement M
+modify-spec =
+    tie.close
+    (tie.spec
+    returns
+    (λ c κs. search needs)
+    (λ c κs. search needs)
+    (λ c. search needs)
+    (λ c. search needs)
+    (λ c. search needs)
+    (λ c. search needs)
+    (λ c κs. search needs)
+    (λ c κs. search needs)
+    (λ c. search needs)
+    (λ c κs. search needs)
+    (λ c. search needs)
+    (λ c. search needs)
+    returns-2
+    (λ c. search needs)
+    (λ c κs. search needs)
+    (λ c κs. search needs)
+    (λ c κs. search needs)
+    (λ c. search needs)
+    (λ c. search needs)
+    returns-3
+    (λ c. search needs)
+    (λ c. search needs)
+    (λ c. search needs)
+    returns-4
+    (λ c. search needs)
+    returns-5
+    returns-6)

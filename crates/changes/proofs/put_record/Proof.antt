@@ -1,0 +1,22 @@
+use Rattle.rules.proofs.Bytes.{field-all}
+use borrow.Author.Needs.{needs}
+use Rattle.changes.proofs.put_record.Statement.{statement}
+use Rattle.changes.proofs.put_record.Tie as tie
+
+returns : tie.Need-returns
+returns c =
+    let start = c .before .before .before .before .before .before .before .before .before .before .before .before .before .before .before in
+    cc (field-all (start .args .body .now) 52 (start .pre .1))
+
+pub put-record-spec : {M : Type 1} → statement M
+put-record-spec =
+    tie.close
+    (tie.spec
+    (λ c. search needs)
+    (λ c κs. search needs)
+    (λ c. search needs)
+    (λ c κs. search needs)
+    (λ c. search needs)
+    (λ c κs. search needs)
+    (λ c. search needs)
+    returns)
