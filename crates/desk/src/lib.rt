@@ -14,7 +14,10 @@ use rules::Card;
 use rules::Position;
 use rules::Ticket;
 
+mod cards;
+mod head;
 pub mod write;
+mod words;
 
 pub fn card_at(desk: &[u8], p: Position) -> Card
     requires { ⌜ (length (now desk) ≡ 1088) × (p .0 < 64) ⌝ }
@@ -45,4 +48,59 @@ pub fn masks_at(desk: &[u8]) -> Masks
         active: active,
         local: local,
     }
+}
+
+// The lowest position below n whose card bears the ticket, or n.
+fn bearing_below(desk: &[u8], t: Ticket, n: u32) -> u32
+    requires { ⌜ (length (now desk) ≡ 1088) × (n ≤ 64) ⌝ }
+    ensures { λ r. ⌜ r ≡ first (λ i. eqb (u32At (now (desk .entry)) (64 + i * 16)) (t .0)) 0 n ⌝ }
+{
+    let mut i: u32 = 0;
+    while i < n {
+        if layout::get32(desk, 64 + (i as usize) * 16) == t.0 {
+            return i;
+        }
+        i += 1;
+    }
+    i
+}
+
+// The lowest position whose card bears the ticket, or 64. Looks below N only.
+pub fn position_of(desk: &[u8], t: Ticket) -> Position
+    requires { ⌜ (length (now desk) ≡ 1088) × (u32At (now desk) 0 ≤ 64) × ((k : ℕ) → u32At (now desk) 0 ≤ k → k < 64 → u32At (now desk) (64 + k * 16) ≡ t .0 → ⊥) ⌝ }
+    ensures { λ r. ⌜ r .0 ≡ positionOf (read (lent (now (desk .entry)) [] [])) (t .0) ⌝ }
+{
+    let n = layout::get32(desk, 0);
+    let i = bearing_below(desk, t, n);
+    if i < n { Position(i) } else { Position(64) }
+}
+
+// The lowest position below N with active bit 1, or N.
+pub fn free_position(desk: &[u8]) -> Position
+    requires { ⌜ (length (now desk) ≡ 1088) × (u32At (now desk) 0 ≤ 64) ⌝ }
+    ensures { λ r. ⌜ r .0 ≡ freePosition (read (lent (now (desk .entry)) [] [])) ⌝ }
+{
+    let n = layout::get32(desk, 0);
+    let active = layout::get64(desk, 24);
+    let mut i: u32 = 0;
+    while i < n {
+        if masks::has_bit(active, Position(i)) {
+            return Position(i);
+        }
+        i += 1;
+    }
+    Position(i)
+}
+
+// The desk is sound.
+pub fn is_sound(desk: &[u8], table: &[u8], shelf: &[u8]) -> bool
+    requires { ⌜ (length (now desk) ≡ 1088) × (length (now table) / 64 + length (now shelf) / 64 < 4294967296) ⌝ }
+    ensures { λ r. ⌜ r ≡ sound (read (lent (now (desk .entry)) (now (table .entry)) (now (shelf .entry)))) ⌝ }
+{
+    let t = table.len() / 64;
+    let r = shelf.len() / 64;
+    if head::head_sound(desk, t, r) {
+        return cards::cards_sound(desk, t, r);
+    }
+    false
 }

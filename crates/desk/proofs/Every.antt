@@ -1,0 +1,55 @@
+-- Laws of a test that holds of each number of a range.
+use mathlib.Core.Path.{_≡_, refl, sym, ap, _∙_}
+use mathlib.Core.Bool.{Bool, true, false, _&&_, and-true, and-assoc, false≢true}
+use Prim.Native.Nat.{ℕ, zero, suc, _+_, _*_, _≤_, _<_}
+use native.Mathlib.Nat.{add-suc, add-zero, suc-add, zero-add}
+use native.Mathlib.Numerals.{add-one}
+use native.Mathlib.Omega.{arith}
+use native.Mathlib.Decide.{ℕ-discrete}
+use Rattle.desk.specs.Every.{every}
+
+pub and-left : (a b : Bool) → a && b ≡ true → a ≡ true
+and-left true b e = refl
+and-left false b e = e
+
+pub and-right : (a b : Bool) → a && b ≡ true → b ≡ true
+and-right true b e = e
+and-right false b e = absurd (false≢true e)
+
+-- a range in two parts
+pub every-split : (p : ℕ → Bool) (i a b : ℕ) → every p i (a + b) ≡ every p i a && every p (i + a) b
+unfolding every
+every-split p i zero b = rw (zero-add b, add-zero i) refl
+every-split p i (suc a) b =
+    rw (suc-add a b, add-suc i a, ← suc-add i a) (ap (λ (x : Bool). p i && x) (every-split p (suc i) a b) ∙ sym (and-assoc (p i) (every p (suc i) a) (every p (suc i + a) b)))
+
+pub every-more : (p : ℕ → Bool) (i n : ℕ) → every p i (n + 1) ≡ every p i n && p (i + n)
+unfolding every
+every-more p i n = every-split p i n 1 ∙ ap (λ (x : Bool). every p i n && x) (and-true (p (i + n)))
+
+pub every-at : (p : ℕ → Bool) (i n : ℕ) → every p i n ≡ true → (k : ℕ) → i ≤ k → k < i + n → p k ≡ true
+unfolding every
+every-at p i zero e k a b = absurd (omega arith)
+every-at p i (suc n) e k a b = go (every-at p (suc i) n (and-right (p i) (every p (suc i) n) e) k) (ℕ-discrete k i)
+  where
+    go : (suc i ≤ k → k < suc i + n → p k ≡ true) → Dec (k ≡ i) → p k ≡ true
+    go f (yes q) = rw q (and-left (p i) (every p (suc i) n) e)
+    go f (no q) = f (omega arith) (omega arith)
+
+-- two tests that agree on the range
+pub every-same : (p q : ℕ → Bool) (i n : ℕ) → ((k : ℕ) → i ≤ k → k < i + n → p k ≡ q k) → every p i n ≡ every q i n
+unfolding every
+every-same p q i zero f = refl
+every-same p q i (suc n) f = rw (f i (omega arith) (omega arith), every-same p q (suc i) n (λ k a b. f k (omega arith) (omega arith))) refl
+
+-- the numbers two by two
+pub every-pairs : (p : ℕ → Bool) (b i n : ℕ) → every (λ k. p (b + k * 2) && p (b + k * 2 + 1)) i n ≡ every p (b + i * 2) (n * 2)
+unfolding every
+every-pairs p b i zero = refl
+every-pairs p b i (suc n) =
+    let u : suc n * 2 ≡ suc (suc (n * 2)) = omega arith in
+    let v : b + suc i * 2 ≡ suc (suc (b + i * 2)) = omega arith in
+    rw (u, every-pairs p b (suc i) n, v, add-one (b + i * 2)) (and-assoc (p (b + i * 2)) (p (suc (b + i * 2))) (every p (suc (suc (b + i * 2))) (n * 2)))
+
+pub every-from-zero : (p : ℕ → Bool) (n : ℕ) {x y : Bool} → x ≡ every p 0 n → y ≡ p n → x && y ≡ every p 0 (n + 1)
+every-from-zero p n e f = sym (every-more p 0 n ∙ rw (zero-add n, e, f) refl)

@@ -1,0 +1,12 @@
+pub mod First
+pub mod Position
+pub mod Every
+pub mod Zeros
+pub mod WordsRead
+pub mod HighBits
+pub mod OneCard
+pub mod AllCards
+pub mod CardCases
+pub mod CardsCases
+pub mod HeadRules
+pub mod Sound

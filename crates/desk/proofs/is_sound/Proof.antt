@@ -1,0 +1,39 @@
+use mathlib.Core.Path.{sym, _∙_}
+use Prim.Native.Nat.{_/_}
+use lib.ListN.{length}
+use Rattle.desk.proofs.HeadRules.{head-n, head-active}
+use Rattle.desk.proofs.Sound.{sound-cards, unsound-head}
+use borrow.Author.Needs.{needs}
+use Rattle.desk.proofs.is_sound.Statement.{statement}
+use Rattle.desk.proofs.is_sound.Tie as tie
+
+cards-sound-requires : tie.Need-cards-sound-requires
+cards-sound-requires c κs =
+    let start = c .before .before .before .before .before in
+    let head-sound = c .before .head-sound in
+    let if1 = c .if1 in
+    (search needs, search needs, head-n (start .args .desk .now) (length (start .args .table .now) / 64) (length (start .args .shelf .now) / 64) (sym (head-sound .ensures) ∙ if1 .taken), head-active (start .args .desk .now) (length (start .args .table .now) / 64) (length (start .args .shelf .now) / 64) (sym (head-sound .ensures) ∙ if1 .taken))
+
+returns : tie.Need-returns
+returns c =
+    let start = c .before .before .before .before .before .before in
+    let head-sound = c .before .before .head-sound in
+    let if1 = c .before .if1 in
+    let cards-sound = c .cards-sound in
+    sound-cards (start .args .desk .now) (start .args .table .now) (start .args .shelf .now) (head-sound .ensures) (if1 .taken) (cards-sound .ensures)
+
+returns-2 : tie.Need-returns-2
+returns-2 c =
+    let start = c .before .before .before .before .before in
+    let head-sound = c .before .head-sound in
+    let if1 = c .if1 in
+    unsound-head (start .args .desk .now) (start .args .table .now) (start .args .shelf .now) (head-sound .ensures) (if1 .left)
+
+pub is-sound-spec : {M : Type 1} → statement M
+is-sound-spec =
+    tie.close
+    (tie.spec
+    (λ c κs. search needs)
+    cards-sound-requires
+    returns
+    returns-2)

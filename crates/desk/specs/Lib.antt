@@ -1,0 +1,4 @@
+pub mod Every
+pub mod Words
+pub mod Head
+pub mod Cards

@@ -1,0 +1,84 @@
+// The rules of the cards, a whole word at a time where a position is idle.
+ghost use mathlib.Core.Path.{_≡_};
+ghost use Prim.Native.Nat.{_+_, _≤_, _<_};
+ghost use lib.Bits.{bitAnd};
+ghost use lib.Dec.{ltb};
+ghost use lib.ListN.{length};
+ghost use Rattle.rules.specs.Bytes.{u32At, u64At};
+ghost use Rattle.rules.specs.Masks.{NOT, ones, from};
+ghost use Rattle.rules.specs.Memory.{masksOf};
+ghost use Rattle.rules.specs.Sound.{same};
+ghost use Rattle.masks.specs.Held.{held};
+ghost use Rattle.desk.specs.Every.{every};
+ghost use Rattle.desk.specs.Cards.{busyHolds, cardHolds};
+use crate::words;
+use masks::Masks;
+use rules::Card;
+use rules::Position;
+
+// The place is below t exactly where `low`.
+fn side_sound(place: usize, t: usize, low: bool) -> bool
+    ensures { λ b. ⌜ b ≡ same (ltb place t) low ⌝ }
+{
+    if place < t { low } else { !low }
+}
+
+fn busy_sound(c: Card, low: bool, last: u32, t: usize, r: usize) -> bool
+    requires { ⌜ t + r < 4294967296 ⌝ }
+    ensures { λ b. ⌜ b ≡ busyHolds c low last t r ⌝ }
+{
+    let place = c.place as usize;
+    let side = side_sound(place, t, low);
+    (c.ticket.0 != 0)
+        & ((c.ticket.0 <= last)
+            & ((place <= t + r) & (side & ((c.handed <= c.place) & (c.rest == 0)))))
+}
+
+fn card_sound(desk: &[u8], m: Masks, p: Position, last: u32, t: usize, r: usize) -> bool
+    requires { ⌜ (length (now desk) ≡ 1088) × (p .0 < 64) × (t + r < 4294967296) × (bitAnd (m .active) (NOT 64 (m .local)) ≡ 0) ⌝ }
+    ensures { λ b. ⌜ b ≡ cardHolds (now (desk .entry)) (held m) t r last (p .0) ⌝ }
+{
+    if masks::has_bit(m.active, p) {
+        let word = 8 + (p.0 as usize) * 2;
+        return words::zero_words(desk, word, word + 2);
+    }
+    busy_sound(
+        crate::card_at(desk, p),
+        !masks::has_bit(m.local, p),
+        last,
+        t,
+        r,
+    )
+}
+
+// The cards of the positions below n.
+fn cards_below(desk: &[u8], m: Masks, n: u32, last: u32, t: usize, r: usize) -> bool
+    requires { ⌜ (length (now desk) ≡ 1088) × (n ≤ 64) × (t + r < 4294967296) × (bitAnd (m .active) (NOT 64 (m .local)) ≡ 0) ⌝ }
+    ensures { λ b. ⌜ b ≡ every (cardHolds (now (desk .entry)) (held m) t r last) 0 n ⌝ }
+{
+    let mut sound = true;
+    let mut i: u32 = 0;
+    while i < n {
+        sound = sound & card_sound(desk, m, Position(i), last, t, r);
+        i += 1;
+    }
+    sound
+}
+
+// All cards, on a desk whose active bits from N up are 1.
+pub fn cards_sound(desk: &[u8], t: usize, r: usize) -> bool
+    requires { ⌜ (length (now desk) ≡ 1088) × (t + r < 4294967296) × (u32At (now desk) 0 ≤ 64) × (from (u32At (now desk) 0) (u64At (now desk) 24) ≡ from (u32At (now desk) 0) (ones 64)) ⌝ }
+    ensures { λ b. ⌜ b ≡ every (cardHolds (now (desk .entry)) (masksOf (now (desk .entry))) t r (u32At (now (desk .entry)) 12)) 0 64 ⌝ }
+{
+    let m = crate::masks_at(desk);
+    if m.active & !m.local == 0 {
+        if m.active == Masks::ALL_ONES {
+            return words::zero_words(desk, 8, 136);
+        }
+        let n = layout::get32(desk, 0);
+        let last = layout::get32(desk, 12);
+        return cards_below(desk, m, n, last, t, r)
+            & words::zero_words(desk, 8 + (n as usize) * 2, 136);
+    }
+    false
+}
