@@ -1,22 +1,14 @@
 -- Laws of a test that holds of each number of a range.
 use mathlib.Core.Path.{_≡_, refl, sym, ap, _∙_}
-use mathlib.Core.Bool.{Bool, true, false, _&&_, and-true, and-assoc, false≢true}
-use Prim.Native.Nat.{ℕ, zero, suc, _+_, _*_, _≤_, _<_}
+use mathlib.Core.Bool.{Bool, true, false, _&&_, and-true, and-assoc}
+use Prim.Native.Nat.{ℕ, zero, suc, _+_, _*_, _-_, _≤_, _<_}
 use native.Mathlib.Nat.{add-suc, add-zero, suc-add, zero-add}
 use native.Mathlib.Numerals.{add-one}
 use native.Mathlib.Omega.{arith}
 use native.Mathlib.Decide.{ℕ-discrete}
+use Rattle.laws.proofs.Bools.{and-left, and-right}
 use Rattle.desk.specs.Every.{every}
 
-pub and-left : (a b : Bool) → a && b ≡ true → a ≡ true
-and-left true b e = refl
-and-left false b e = e
-
-pub and-right : (a b : Bool) → a && b ≡ true → b ≡ true
-and-right true b e = e
-and-right false b e = absurd (false≢true e)
-
--- a range in two parts
 pub every-split : (p : ℕ → Bool) (i a b : ℕ) → every p i (a + b) ≡ every p i a && every p (i + a) b
 unfolding every
 every-split p i zero b = rw (zero-add b, add-zero i) refl
@@ -51,5 +43,20 @@ every-pairs p b i (suc n) =
     let v : b + suc i * 2 ≡ suc (suc (b + i * 2)) = omega arith in
     rw (u, every-pairs p b (suc i) n, v, add-one (b + i * 2)) (and-assoc (p (b + i * 2)) (p (suc (b + i * 2))) (every p (suc (suc (b + i * 2))) (n * 2)))
 
-pub every-from-zero : (p : ℕ → Bool) (n : ℕ) {x y : Bool} → x ≡ every p 0 n → y ≡ p n → x && y ≡ every p 0 (n + 1)
-every-from-zero p n e f = sym (every-more p 0 n ∙ rw (zero-add n, e, f) refl)
+-- a loop from k that has come to i
+module _ (p : ℕ → Bool) (k i : ℕ) where
+  pub every-start : true ≡ every p k (k - k)
+  unfolding every
+  every-start = let e : k - k ≡ 0 = omega arith in rw e refl
+
+  pub every-step : {x y : Bool} → k ≤ i → x ≡ every p k (i - k) → y ≡ p i → x && y ≡ every p k (i + 1 - k)
+  every-step h e f =
+      let n : i + 1 - k ≡ i - k + 1 = omega arith in
+      let j : k + (i - k) ≡ i = omega arith in
+      sym (rw (n, every-more p k (i - k), j, e, f) refl)
+
+-- a loop by eights that has come to group g
+pub every-eight : (p : ℕ → Bool) (g : ℕ) {x y : Bool} → x ≡ every p 0 (g * 8) → y ≡ every p (g * 8) 8 → x && y ≡ every p 0 ((g + 1) * 8)
+every-eight p g e f =
+    let n : (g + 1) * 8 ≡ g * 8 + 8 = omega arith in
+    sym (rw (n, every-split p 0 (g * 8) 8, zero-add (g * 8), e, f) refl)

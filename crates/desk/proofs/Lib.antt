@@ -1,12 +1,12 @@
-pub mod First
 pub mod Position
 pub mod Every
 pub mod Zeros
 pub mod WordsRead
-pub mod HighBits
+pub mod MaskBits
 pub mod OneCard
 pub mod AllCards
 pub mod CardCases
-pub mod CardsCases
+pub mod DeskCases
 pub mod HeadRules
 pub mod Sound
+pub mod Says

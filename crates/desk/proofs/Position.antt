@@ -1,6 +1,6 @@
 -- What is looked for on the desk, by the bytes that the code reads.
 use mathlib.Core.Path.{_≡_, refl, sym, ap, _∙_}
-use mathlib.Core.Bool.{Bool, true, false}
+use mathlib.Core.Bool.{Bool}
 use mathlib.Core.List.{List, []}
 use Prim.Native.Nat.{ℕ, _+_, _*_, _-_, _≤_, _<_}
 use native.Mathlib.Nat.{zero-add}
@@ -12,7 +12,7 @@ use Rattle.rules.specs.Masks.{on}
 use Rattle.rules.specs.Memory.{lent, read, deskOf, cardAt, idle}
 use Rattle.rules.specs.Calls.{first, cardOf, positionOf, freePosition}
 use Rattle.rules.proofs.Each.{at-each}
-use Rattle.desk.proofs.First.{first-same, first-none, first-below, first-past}
+use Rattle.laws.proofs.First.{first-same, first-none, first-split-found, first-split-none}
 
 -- the lowest position with active bit 1
 pub free-is : (d : List ℕ) {n a : ℕ} → n ≡ u32At d 0 → a ≡ u64At d 24 → first (λ i. on a i) 0 n ≡ freePosition (read (lent d [] []))
@@ -40,13 +40,13 @@ module _ (d : List ℕ) (t : ℕ) where
 
     pub position-found : i < n → i ≡ positionOf (read (lent d [] [])) t
     position-found g =
-        f ∙ sym (position-is ∙ ap (λ (k : ℕ). first bears 0 k) (sym whole) ∙ first-below bears 0 n (64 - n) (omega arith))
+        f ∙ sym (position-is ∙ ap (λ (k : ℕ). first bears 0 k) (sym whole) ∙ first-split-found bears 0 n (64 - n) (omega arith))
 
     pub position-none : n ≤ i → ((k : ℕ) → u32At d 0 ≤ k → k < 64 → u32At d (64 + k * 16) ≡ t → ⊥) → 64 ≡ positionOf (read (lent d [] [])) t
     position-none g b =
         sym
         (position-is
         ∙ ap (λ (k : ℕ). first bears 0 k) (sym whole)
-        ∙ first-past bears 0 n (64 - n) (omega arith)
+        ∙ first-split-none bears 0 n (64 - n) (omega arith)
         ∙ rw (zero-add n) (first-none bears n (64 - n) (λ k u v. ne-eqb (u32At d (64 + k * 16)) t (b k (omega arith) (omega arith))))
         ∙ whole)

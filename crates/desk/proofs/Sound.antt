@@ -1,5 +1,5 @@
 -- The desk is sound: the rules before the cards, then those of the cards.
-use mathlib.Core.Path.{_≡_, refl, sym, ap, _∙_}
+use mathlib.Core.Path.{_≡_, sym, ap, _∙_}
 use mathlib.Core.Bool.{Bool, true, false, _&&_}
 use mathlib.Core.List.{List}
 use Prim.Native.Nat.{ℕ, _/_}
@@ -20,7 +20,7 @@ module _ (d t s : List ℕ) where
   abbrev cards : Bool
   cards = every (cardHolds d (masksOf d) (length t / 64) (length s / 64) (u32At d 12)) 0 64
 
-  sound-is : head && cards ≡ sound (read (lent d t s))
+  pub sound-is : head && cards ≡ sound (read (lent d t s))
   unfolding sound deskRules read deskOf
   sound-is =
       rw (

@@ -1,11 +1,11 @@
-// The rules of the cards, a whole word at a time where a position is idle.
+// The rules of the cards: idle ones by whole words, eight at a time where all eight are idle.
 ghost use mathlib.Core.Path.{_≡_};
-ghost use Prim.Native.Nat.{_+_, _≤_, _<_};
+ghost use Prim.Native.Nat.{_+_, _*_, _<_};
 ghost use lib.Bits.{bitAnd};
 ghost use lib.Dec.{ltb};
 ghost use lib.ListN.{length};
-ghost use Rattle.rules.specs.Bytes.{u32At, u64At};
-ghost use Rattle.rules.specs.Masks.{NOT, ones, from};
+ghost use Rattle.rules.specs.Bytes.{u32At};
+ghost use Rattle.rules.specs.Masks.{NOT};
 ghost use Rattle.rules.specs.Memory.{masksOf};
 ghost use Rattle.rules.specs.Sound.{same};
 ghost use Rattle.masks.specs.Held.{held};
@@ -23,6 +23,7 @@ fn side_sound(place: usize, t: usize, low: bool) -> bool
     if place < t { low } else { !low }
 }
 
+// A card with a scan on it keeps its rules; `low` where its local active bit is 0.
 fn busy_sound(c: Card, low: bool, last: u32, t: usize, r: usize) -> bool
     requires { ⌜ t + r < 4294967296 ⌝ }
     ensures { λ b. ⌜ b ≡ busyHolds c low last t r ⌝ }
@@ -34,6 +35,7 @@ fn busy_sound(c: Card, low: bool, last: u32, t: usize, r: usize) -> bool
             & ((place <= t + r) & (side & ((c.handed <= c.place) & (c.rest == 0)))))
 }
 
+// The card of position p, where every idle position's local active bit is 1.
 fn card_sound(desk: &[u8], m: Masks, p: Position, last: u32, t: usize, r: usize) -> bool
     requires { ⌜ (length (now desk) ≡ 1088) × (p .0 < 64) × (t + r < 4294967296) × (bitAnd (m .active) (NOT 64 (m .local)) ≡ 0) ⌝ }
     ensures { λ b. ⌜ b ≡ cardHolds (now (desk .entry)) (held m) t r last (p .0) ⌝ }
@@ -51,23 +53,42 @@ fn card_sound(desk: &[u8], m: Masks, p: Position, last: u32, t: usize, r: usize)
     )
 }
 
-// The cards of the positions below n.
-fn cards_below(desk: &[u8], m: Masks, n: u32, last: u32, t: usize, r: usize) -> bool
-    requires { ⌜ (length (now desk) ≡ 1088) × (n ≤ 64) × (t + r < 4294967296) × (bitAnd (m .active) (NOT 64 (m .local)) ≡ 0) ⌝ }
-    ensures { λ b. ⌜ b ≡ every (cardHolds (now (desk .entry)) (held m) t r last) 0 n ⌝ }
+// The cards of the eight positions of group g.
+fn eight_sound(desk: &[u8], m: Masks, g: u32, last: u32, t: usize, r: usize) -> bool
+    requires { ⌜ (length (now desk) ≡ 1088) × (g < 8) × (t + r < 4294967296) × (bitAnd (m .active) (NOT 64 (m .local)) ≡ 0) ⌝ }
+    ensures { λ b. ⌜ b ≡ every (cardHolds (now (desk .entry)) (held m) t r last) (g * 8) 8 ⌝ }
 {
+    let p = g * 8;
+    if (m.active >> p) % 256 == 255 {
+        let word = 8 + (p as usize) * 2;
+        return words::zero_words(desk, word, word + 16);
+    }
     let mut sound = true;
-    let mut i: u32 = 0;
-    while i < n {
+    let mut i = p;
+    while i < p + 8 {
         sound = sound & card_sound(desk, m, Position(i), last, t, r);
         i += 1;
     }
     sound
 }
 
-// All cards, on a desk whose active bits from N up are 1.
+// The cards of all groups, where some scan runs.
+fn groups_sound(desk: &[u8], m: Masks, last: u32, t: usize, r: usize) -> bool
+    requires { ⌜ (length (now desk) ≡ 1088) × (t + r < 4294967296) × (bitAnd (m .active) (NOT 64 (m .local)) ≡ 0) ⌝ }
+    ensures { λ b. ⌜ b ≡ every (cardHolds (now (desk .entry)) (held m) t r last) 0 64 ⌝ }
+{
+    let mut sound = true;
+    let mut g: u32 = 0;
+    while g < 8 {
+        sound = sound & eight_sound(desk, m, g, last, t, r);
+        g += 1;
+    }
+    sound
+}
+
+// Every idle position's local active bit is 1, and the cards keep their rules.
 pub fn cards_sound(desk: &[u8], t: usize, r: usize) -> bool
-    requires { ⌜ (length (now desk) ≡ 1088) × (t + r < 4294967296) × (u32At (now desk) 0 ≤ 64) × (from (u32At (now desk) 0) (u64At (now desk) 24) ≡ from (u32At (now desk) 0) (ones 64)) ⌝ }
+    requires { ⌜ (length (now desk) ≡ 1088) × (t + r < 4294967296) ⌝ }
     ensures { λ b. ⌜ b ≡ every (cardHolds (now (desk .entry)) (masksOf (now (desk .entry))) t r (u32At (now (desk .entry)) 12)) 0 64 ⌝ }
 {
     let m = crate::masks_at(desk);
@@ -75,10 +96,8 @@ pub fn cards_sound(desk: &[u8], t: usize, r: usize) -> bool
         if m.active == Masks::ALL_ONES {
             return words::zero_words(desk, 8, 136);
         }
-        let n = layout::get32(desk, 0);
         let last = layout::get32(desk, 12);
-        return cards_below(desk, m, n, last, t, r)
-            & words::zero_words(desk, 8 + (n as usize) * 2, 136);
+        return groups_sound(desk, m, last, t, r);
     }
     false
 }

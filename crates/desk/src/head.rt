@@ -25,6 +25,7 @@ fn high_bits_sound(n: u32, m: Masks) -> bool
         & ((bits_from(n, m.active) == set) & (bits_from(n, m.local) == set))
 }
 
+// N in range, T and R the slot counts t and r, reserved bytes and high bits as they must be.
 pub fn head_sound(desk: &[u8], t: usize, r: usize) -> bool
     requires { ⌜ length (now desk) ≡ 1088 ⌝ }
     ensures { λ b. ⌜ b ≡ holds (headRules (deskOf (now (desk .entry))) t r) ⌝ }

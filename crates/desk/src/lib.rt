@@ -16,8 +16,8 @@ use rules::Ticket;
 
 mod cards;
 mod head;
-pub mod write;
 mod words;
+pub mod write;
 
 pub fn card_at(desk: &[u8], p: Position) -> Card
     requires { ⌜ (length (now desk) ≡ 1088) × (p .0 < 64) ⌝ }
@@ -82,14 +82,14 @@ pub fn free_position(desk: &[u8]) -> Position
 {
     let n = layout::get32(desk, 0);
     let active = layout::get64(desk, 24);
-    let mut i: u32 = 0;
-    while i < n {
-        if masks::has_bit(active, Position(i)) {
-            return Position(i);
+    let mut p: u32 = 0;
+    while p < n {
+        if masks::has_bit(active, Position(p)) {
+            return Position(p);
         }
-        i += 1;
+        p += 1;
     }
-    Position(i)
+    Position(p)
 }
 
 // The desk is sound.

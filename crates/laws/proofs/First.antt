@@ -1,11 +1,11 @@
 -- Laws of a search for the first number that passes.
 use mathlib.Core.Path.{_≡_, refl, sym, ap, _∙_}
-use mathlib.Core.Bool.{Bool, true, false}
+use mathlib.Core.Bool.{Bool, true, false, false≢true}
 use Prim.Native.Nat.{ℕ, zero, suc, _+_, _-_, _≤_, _<_}
-use native.Mathlib.Nat.{suc-add, add-zero, zero-add}
+use native.Mathlib.Nat.{suc-add, add-zero, zero-add, sub-zero}
 use native.Mathlib.Numerals.{add-one}
 use native.Mathlib.Omega.{arith}
-use native.Mathlib.Decide.{ℕ-discrete}
+use native.Mathlib.Decide.{decLt, ℕ-discrete}
 use Rattle.rules.specs.Calls.{first}
 
 module _ (p : ℕ → Bool) where
@@ -102,3 +102,46 @@ first-same p q i (suc n) same = go (first-same p q (suc i) n (λ j from to. same
     go : first p (suc i) n ≡ first q (suc i) n → (t : Bool) → q i ≡ t → first p i (suc n) ≡ first q i (suc n)
     go ih true e = first-here p i n (here ∙ e) ∙ sym (first-here q i n e)
     go ih false e = first-next p i n (here ∙ e) ∙ ih ∙ sym (first-next q i n e)
+
+-- a search from a on, by the distance from a
+pub first-shift : (p : ℕ → Bool) (a i n : ℕ) → first p (a + i) n ≡ a + first (λ j. p (a + j)) i n
+unfolding first
+first-shift p a i zero = refl
+first-shift p a i (suc n) = go (first-shift p a (suc i) n) (p (a + i)) refl
+  where
+    go : first p (a + suc i) n ≡ a + first (λ j. p (a + j)) (suc i) n → (t : Bool) → p (a + i) ≡ t → first p (a + i) (suc n) ≡ a + first (λ j. p (a + j)) i (suc n)
+    go ih true e = first-here p (a + i) n e ∙ ap (λ (k : ℕ). a + k) (sym (first-here (λ j. p (a + j)) i n e))
+    go ih false e =
+        let z : suc (a + i) ≡ a + suc i = omega arith in
+        first-next p (a + i) n e ∙ ap (λ (k : ℕ). first p k n) z ∙ ih ∙ ap (λ (k : ℕ). a + k) (sym (first-next (λ j. p (a + j)) i n e))
+
+-- a search from 0, as a loop begins it
+pub first-start : (p : ℕ → Bool) (n : ℕ) → first p 0 n ≡ first p 0 (n - 0)
+first-start p n = rw (sub-zero n) refl
+
+-- nothing passes
+pub first-none : (p : ℕ → Bool) (i n : ℕ) → ((k : ℕ) → i ≤ k → k < i + n → p k ≡ false) → first p i n ≡ i + n
+first-none p i n f = go (decLt (first p i n) (i + n))
+  where
+    go : Dec (first p i n < i + n) → first p i n ≡ i + n
+    go (yes d) = absurd (false≢true (sym (f (first p i n) (first-least p i n) d) ∙ first-found p i n d))
+    go (no d) = omega (arith, first-most p i n)
+
+-- four turns of a search up to s
+pub first-miss-four : (p : ℕ → Bool) (i s : ℕ) → i + 4 ≤ s → p i ≡ false → p (i + 1) ≡ false → p (i + 2) ≡ false → p (i + 3) ≡ false → first p i (s - i) ≡ first p (i + 4) (s - (i + 4))
+first-miss-four p i s h a b c d =
+    let e : i + 1 + 1 ≡ i + 2 = omega arith in
+    let f : i + 2 + 1 ≡ i + 3 = omega arith in
+    let g : i + 3 + 1 ≡ i + 4 = omega arith in
+    first-miss p i s (omega arith) a
+    ∙ rw e at (first-miss p (i + 1) s (omega arith) b)
+    ∙ rw f at (first-miss p (i + 2) s (omega arith) c)
+    ∙ rw g at (first-miss p (i + 3) s (omega arith) d)
+
+-- past numbers that fail
+pub first-past : (p : ℕ → Bool) (i r s : ℕ) → i ≤ r → r ≤ s → ((j : ℕ) → i ≤ j → j < r → p j ≡ false) → first p i (s - i) ≡ first p r (s - r)
+first-past p i r s lo hi f =
+    let a : s - i ≡ (r - i) + (s - r) = omega arith in
+    let b : i + (r - i) ≡ r = omega arith in
+    let n : first p i (r - i) ≡ i + (r - i) = first-none p i (r - i) (λ k x y. f k x (omega arith)) in
+    rw a (first-split-none p i (r - i) (s - r) (omega arith) ∙ ap (λ (x : ℕ). first p x (s - r)) b)

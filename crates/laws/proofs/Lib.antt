@@ -1,3 +1,4 @@
+pub mod Bools
 pub mod Slots
 pub mod Desks
 pub mod First
@@ -7,3 +8,4 @@ pub mod Walks
 pub mod Cases
 pub mod Effects
 pub mod Opens
+pub mod Replies

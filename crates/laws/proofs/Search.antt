@@ -3,10 +3,10 @@ use mathlib.Core.Path.{_≡_, refl, sym, ap, _∙_}
 use mathlib.Core.Bool.{Bool, true, false, not, _&&_, _||_, false≢true}
 use mathlib.Core.List.{List, [], _∷_}
 use Prim.Native.Nat.{ℕ, zero, suc, _+_, _*_, _-_, _/_, _%_, _≤_, _<_}
-use native.Mathlib.Nat.{sub-zero, zero-add}
+use native.Mathlib.Nat.{add-zero, sub-zero, zero-add}
 use native.Mathlib.Numerals.{add-one}
 use native.Mathlib.Omega.{arith}
-use native.Mathlib.Decide.{decLt}
+use native.Mathlib.Decide.{decLt, ℕ-discrete}
 use lib.Bits.{bitXor, xor-zero-l}
 use lib.Dec.{eqb}
 use lib.ListN.{length, getD}
@@ -17,7 +17,7 @@ use Rattle.rules.specs.Masks.{bit, off}
 use Rattle.rules.specs.Memory.{Slot, slot, free, each, slotAt, slotsOf}
 use Rattle.rules.proofs.Bits.{bit-xor, bit-low}
 use Rattle.laws.specs.Search.{bears, bearsOrEmpty, waiting}
-use Rattle.laws.proofs.First.{first-found, first-before, first-split-none, first-most, first-same}
+use Rattle.laws.proofs.First.{first-found, first-before, first-split-none, first-most, first-same, first-miss-four}
 use Rattle.laws.proofs.Slots.{count, at}
 
 -- ---- slot i of a buffer
@@ -38,6 +38,53 @@ bears-or-empty-is l k i h = rw (at l i h) refl
 pub waits-at : (l : List ℕ) (flip p i : ℕ) → i < length l / 64
     → waiting flip p (slotIn (slotsOf l) i) ≡ not (eqb (u32At l (i * 64)) 0) && off (bitXor flip (u64At l (i * 64 + 56))) p
 waits-at l flip p i h = rw (at l i h) refl
+
+-- a block of four slots from i on
+module _ (l : List ℕ) (i : ℕ) (there : i + 4 ≤ length l / 64) where
+  at-1 : i * 64 + 64 ≡ (i + 1) * 64
+  at-1 = omega arith
+
+  at-2 : i * 64 + 128 ≡ (i + 2) * 64
+  at-2 = omega arith
+
+  at-3 : i * 64 + 192 ≡ (i + 3) * 64
+  at-3 = omega arith
+
+  -- none bears the number
+  pub four-bear-none : (k : ℕ) {a b c d : ℕ} → a ≡ u32At l (i * 64) → b ≡ u32At l (i * 64 + 64) → c ≡ u32At l (i * 64 + 128) → d ≡ u32At l (i * 64 + 192)
+      → (eqb a k || eqb b k) || (eqb c k || eqb d k) ≡ false → first (bears (slotsOf l) k) i (length l / 64 - i) ≡ first (bears (slotsOf l) k) (i + 4) (length l / 64 - (i + 4))
+  four-bear-none k {a} {b} {c} {d} ea eb ec ed h =
+      let n = none-of (eqb a k) (eqb b k) (eqb c k) (eqb d k) h in
+      first-miss-four (bears (slotsOf l) k) i (length l / 64) there (bears-is l k i (omega arith) ∙ rw (← ea) (n .0)) (bears-is l k (i + 1) (omega arith) ∙ rw (← at-1, ← eb) (n .1))
+      (bears-is l k (i + 2) (omega arith) ∙ rw (← at-2, ← ec) (n .2)) (bears-is l k (i + 3) (omega arith) ∙ rw (← at-3, ← ed) (n .3))
+    where
+      none-of : (x y z w : Bool) → (x || y) || (z || w) ≡ false → (x ≡ false) × (y ≡ false) × (z ≡ false) × (w ≡ false)
+      none-of false false false false e = (refl, refl, refl, refl)
+      none-of false false false true e = absurd (false≢true (sym e))
+      none-of false false true w e = absurd (false≢true (sym e))
+      none-of false true z w e = absurd (false≢true (sym e))
+      none-of true y z w e = absurd (false≢true (sym e))
+
+  -- all are empty
+  pub four-empty : {a b c d : ℕ} → a ≡ u32At l (i * 64) → b ≡ u32At l (i * 64 + 64) → c ≡ u32At l (i * 64 + 128) → d ≡ u32At l (i * 64 + 192)
+      → (eqb a 0 && eqb b 0) && (eqb c 0 && eqb d 0) ≡ true → (j : ℕ) → i ≤ j → j < i + 4 → u32At l (j * 64) ≡ 0
+  four-empty {a} {b} {c} {d} ea eb ec ed h j lo hi =
+      let n = all-of (eqb a 0) (eqb b 0) (eqb c 0) (eqb d 0) h in
+      go (ℕ-discrete j i) (ℕ-discrete j (i + 1)) (ℕ-discrete j (i + 2)) (sym ea ∙ eqb-true a 0 (n .0)) (ap (u32At l) (sym at-1) ∙ sym eb ∙ eqb-true b 0 (n .1)) (ap (u32At l) (sym at-2) ∙ sym ec ∙ eqb-true c 0 (n .2))
+      (ap (u32At l) (sym at-3) ∙ sym ed ∙ eqb-true d 0 (n .3))
+    where
+      all-of : (x y z w : Bool) → (x && y) && (z && w) ≡ true → (x ≡ true) × (y ≡ true) × (z ≡ true) × (w ≡ true)
+      all-of true true true true e = (refl, refl, refl, refl)
+      all-of true true true false e = absurd (false≢true e)
+      all-of true true false w e = absurd (false≢true e)
+      all-of true false z w e = absurd (false≢true e)
+      all-of false y z w e = absurd (false≢true e)
+
+      go : Dec (j ≡ i) → Dec (j ≡ i + 1) → Dec (j ≡ i + 2) → u32At l (i * 64) ≡ 0 → u32At l ((i + 1) * 64) ≡ 0 → u32At l ((i + 2) * 64) ≡ 0 → u32At l ((i + 3) * 64) ≡ 0 → u32At l (j * 64) ≡ 0
+      go (yes e) y z p q r s = rw e p
+      go (no x) (yes e) z p q r s = rw e q
+      go (no x) (no y) (yes e) p q r s = rw e r
+      go (no x) (no y) (no z) p q r s = let e : j ≡ i + 3 = omega arith in rw e s
 
 -- the lowest slot that bears k, as a search of the bytes' slots
 pub bearing-is : (l : List ℕ) (k : ℕ) → bearing (slotsOf l) k ≡ first (bears (slotsOf l) k) 0 (length l / 64 - 0)
@@ -66,6 +113,14 @@ module _ (p : Slot → Bool) (f : ℕ → Slot) (i s : ℕ) where
   pub count-end : s ≤ i → countOf p (each f i (s - i)) ≡ 0
   unfolding each countOf
   count-end h = let z : s - i ≡ 0 = omega arith in rw z refl
+
+-- past slots that fail
+pub count-past : (p : Slot → Bool) (f : ℕ → Slot) (s n i : ℕ) → i + n ≤ s → ((j : ℕ) → i ≤ j → j < i + n → p (f j) ≡ false) → countOf p (each f i (s - i)) ≡ countOf p (each f (i + n) (s - (i + n)))
+count-past p f s zero i h e = rw (add-zero i) refl
+count-past p f s (suc n) i h e =
+    let x : i + 1 + n ≡ i + suc n = omega arith in
+    count-turn p f i s (omega arith) ∙ rw (e i (omega arith) (omega arith), zero-add (countOf p (each f (i + 1) (s - (i + 1)))))
+    (rw x at (count-past p f s n (i + 1) (omega arith) (λ j lo hi. e j (omega arith) (omega arith))))
 
 pub count-most : (p : Slot → Bool) (l : List Slot) → countOf p l ≤ length l
 unfolding countOf

@@ -1,16 +1,30 @@
 -- Masks bit by bit, for every position and width.
 use mathlib.Core.Path.{_≡_, refl, sym, ap, _∙_}
+use mathlib.Core.Bool.{Bool, true, false, not}
 use Prim.Native.Nat.{ℕ, zero, suc, _+_, _*_, _-_, _/_, _%_, _^_, _≤_, _<_, min, max}
 use native.Mathlib.Nat.{mod-eq-of-lt, div-eq-of-lt, one-mul, add-zero, pow-suc, pow-succ', div-div-eq-div-mul}
 use native.Mathlib.Omega.{arith}
 use native.Mathlib.Decide.{decLt}
 use lib.Pow.{pow-pos, pow-lt, pow-add, ones-split, high}
 use lib.Bits.{bitAnd, bitOr, bitXor, differ, and-step, or-step, xor-step, and-shr, or-shr, xor-shr, and-mask, xor-add-and}
-use Rattle.rules.specs.Masks.{bit, ones, NOT, scanMask}
+use borrow.Author.Tests.{eq-eqb, ne-eqb, eqb-true, eqb-false}
+use Rattle.rules.specs.Masks.{bit, on, off, ones, NOT, scanMask}
 
 pub bit-low : (x i : ℕ) → bit x i < 2
 unfolding bit
 bit-low x i = omega arith
+
+pub bit-zero : (i : ℕ) → bit 0 i ≡ 0
+unfolding bit
+bit-zero i = rw (div-eq-of-lt (pow-pos i)) refl
+
+-- a bit that is not 1 is 0
+pub not-on : (x i : ℕ) → not (on x i) ≡ off x i
+not-on x i = go (on x i) refl
+  where
+    go : (b : Bool) → on x i ≡ b → not b ≡ off x i
+    go true e = sym (ne-eqb (bit x i) 0 (λ z. omega (arith, eqb-true (bit x i) 1 e)))
+    go false e = sym (eq-eqb (bit x i) 0 (omega (arith, bit-low x i, eqb-false (bit x i) 1 e)))
 
 pub bit-and : (a b i : ℕ) → bit (bitAnd a b) i ≡ min (bit a i) (bit b i)
 unfolding bit

@@ -2,7 +2,6 @@
 use mathlib.Core.Path.{_≡_, refl, sym, ap, _∙_}
 use mathlib.Core.Bool.{Bool, true, false}
 use Prim.Native.Nat.{ℕ, suc, _+_, _-_, _%_, _^_, _<_, min, max}
-use native.Mathlib.Nat.{div-eq-of-lt}
 use native.Mathlib.Omega.{arith}
 use native.Mathlib.Decide.{ℕ-discrete}
 use lib.Bits.{bitAnd, bitOr, bitXor, xor-lt, and-le-r, and-comm}
@@ -10,7 +9,7 @@ use lib.Dec.{eqb}
 use lib.Pow.{pow-pos}
 use borrow.Author.Tests.{eq-eqb, ne-eqb, eqb-true, eqb-false}
 use Rattle.rules.specs.Masks.{bit, off, NOT, scanMask, Masks, masks, cleared, begun, walkEnded, ended, newStatus, mOf, REMSET-MASK-INS, REMSET-MASK-UPD, LCL-ACTIVE-MASK-UPD, ACTIVE-MASK-UPD, STATUS-MASK-UPD, STATUS-MASK-SCAN-UPD, SCAN-TABLE-READ, STABLE-FLIP, SCAN-REMSET-READ}
-use Rattle.rules.proofs.Bits.{bit-low, bit-and, bit-or, bit-xor, bit-not, bit-ext, scan-own, scan-other, scan-small}
+use Rattle.rules.proofs.Bits.{bit-low, bit-zero, bit-and, bit-or, bit-xor, bit-not, bit-ext, scan-own, scan-other, scan-small}
 
 -- ---- a bit flipped, set, cleared
 
@@ -88,10 +87,6 @@ unfolding STABLE-FLIP
 next-stable stable status p e = rw (flip-own stable p) (omega (arith, bit-low stable p, bit-low status p))
 
 -- ---- the two reads of Table I are document 01's tests: the scan's bit is 0
-
-bit-zero : (i : ℕ) → bit 0 i ≡ 0
-unfolding bit
-bit-zero i = rw (div-eq-of-lt (pow-pos i)) refl
 
 module _ (x p : ℕ) where
   off-of-zero : bitAnd x (scanMask p) ≡ 0 → bit x p ≡ 0

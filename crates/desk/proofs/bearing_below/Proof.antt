@@ -3,7 +3,7 @@ use Prim.Native.Nat.{_-_, _≤_}
 use native.Mathlib.Omega.{arith}
 use borrow.Author.Tests.{eq-eqb, ne-eqb}
 use Rattle.rules.specs.Calls.{first}
-use Rattle.desk.proofs.First.{first-start, first-hit, first-miss, first-end}
+use Rattle.laws.proofs.First.{first-start, first-hit, first-miss, first-end}
 use Rattle.desk.proofs.Position.{bears}
 use borrow.Author.Needs.{needs}
 use Rattle.desk.proofs.bearing_below.Statement.{statement}
@@ -18,7 +18,7 @@ abbrev μ-loop : tie.MeasureT-loop
 loop-holds : tie.Need-loop-holds Inv-loop μ-loop
 loop-holds c =
     let start = c .before in
-    (search needs, first-start (bears (start .args .desk .now) (start .args .t .0)) 0 (start .args .n))
+    (search needs, first-start (bears (start .args .desk .now) (start .args .t .0)) (start .args .n))
 
 returns : tie.Need-returns Inv-loop μ-loop
 returns c =

@@ -1,18 +1,7 @@
-use mathlib.Core.Path.{sym, _∙_}
-use Prim.Native.Nat.{_/_}
-use lib.ListN.{length}
-use Rattle.desk.proofs.HeadRules.{head-n, head-active}
 use Rattle.desk.proofs.Sound.{sound-cards, unsound-head}
 use borrow.Author.Needs.{needs}
 use Rattle.desk.proofs.is_sound.Statement.{statement}
 use Rattle.desk.proofs.is_sound.Tie as tie
-
-cards-sound-requires : tie.Need-cards-sound-requires
-cards-sound-requires c κs =
-    let start = c .before .before .before .before .before in
-    let head-sound = c .before .head-sound in
-    let if1 = c .if1 in
-    (search needs, search needs, head-n (start .args .desk .now) (length (start .args .table .now) / 64) (length (start .args .shelf .now) / 64) (sym (head-sound .ensures) ∙ if1 .taken), head-active (start .args .desk .now) (length (start .args .table .now) / 64) (length (start .args .shelf .now) / 64) (sym (head-sound .ensures) ∙ if1 .taken))
 
 returns : tie.Need-returns
 returns c =
@@ -34,6 +23,6 @@ is-sound-spec =
     tie.close
     (tie.spec
     (λ c κs. search needs)
-    cards-sound-requires
+    (λ c κs. search needs)
     returns
     returns-2)

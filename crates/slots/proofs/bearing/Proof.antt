@@ -1,6 +1,6 @@
 -- The search from the start is the search from here.
 use mathlib.Core.Path.{_≡_, refl, sym, ap, _∙_}
-use Prim.Native.Nat.{_≤_, _-_, _/_, _+_, _*_}
+use Prim.Native.Nat.{ℕ, _≤_, _<_, _-_, _/_, _+_, _*_}
 use native.Mathlib.Omega.{arith}
 use lib.ListN.{length}
 use Rattle.rules.specs.Calls.{first}
@@ -20,12 +20,13 @@ abbrev μ-loop : tie.MeasureT-loop
 
 loop-holds : tie.Need-loop-holds Inv-loop μ-loop
 loop-holds c =
-    (search needs, refl)
+    let past-fours = c .past-fours in
+    (past-fours .ensures .0, refl)
 
 loop-again : tie.Need-loop-again Inv-loop μ-loop
 loop-again c =
     let loop = c .before .before .before .loop in
-    let start = c .before .before .before .before .before in
+    let start = c .before .before .before .before .before .before in
     let loop-test = c .before .before .loop-test in
     let if1 = c .if1 in
     let get32 = c .before .get32 in
@@ -33,18 +34,20 @@ loop-again c =
 
 returns : tie.Need-returns Inv-loop μ-loop
 returns c =
+    let past-fours = c .before .before .past-fours in
     let loop = c .before .loop in
-    let start = c .before .before .before in
-    sym (loop .inv .1 ∙ first-end (bears (slotsOf (start .args .slots .now)) (start .args .k .0)) (loop .i) (length (start .args .slots .now) / 64) (omega arith))
+    let start = c .before .before .before .before in
+    sym (past-fours .ensures .1 ∙ loop .inv .1 ∙ first-end (bears (slotsOf (start .args .slots .now)) (start .args .k .0)) (loop .i) (length (start .args .slots .now) / 64) (omega arith))
 
 returns-2 : tie.Need-returns-2 Inv-loop μ-loop
 returns-2 c =
+    let past-fours = c .before .before .before .before .past-fours in
     let loop = c .before .before .before .loop in
-    let start = c .before .before .before .before .before in
+    let start = c .before .before .before .before .before .before in
     let loop-test = c .before .before .loop-test in
     let get32 = c .before .get32 in
     let if1 = c .if1 in
-    sym (loop .inv .1 ∙ first-hit (bears (slotsOf (start .args .slots .now)) (start .args .k .0)) (loop .i) (length (start .args .slots .now) / 64) (loop-test .taken) (bears-it (start .args .slots .now) (start .args .k .0) (loop .i) (loop-test .taken) (sym (get32 .ensures) ∙ if1 .taken)))
+    sym (past-fours .ensures .1 ∙ loop .inv .1 ∙ first-hit (bears (slotsOf (start .args .slots .now)) (start .args .k .0)) (loop .i) (length (start .args .slots .now) / 64) (loop-test .taken) (bears-it (start .args .slots .now) (start .args .k .0) (loop .i) (loop-test .taken) (sym (get32 .ensures) ∙ if1 .taken)))
 
 pub bearing-spec : {M : Type 1} → statement M
 bearing-spec =
@@ -52,6 +55,7 @@ bearing-spec =
     (tie.spec
     Inv-loop
     μ-loop
+    (λ c κs. search needs)
     loop-holds
     (λ c. search needs)
     (λ c κs. search needs)

@@ -1,11 +1,13 @@
-use Rattle.desk.specs.Cards.{busyHolds}
+use Rattle.desk.proofs.OneCard.{busy-by}
 use borrow.Author.Needs.{needs}
 use Rattle.desk.proofs.cards.busy_sound.Statement.{statement}
 use Rattle.desk.proofs.cards.busy_sound.Tie as tie
 
 returns : tie.Need-returns
-unfolding busyHolds
-returns c = cc
+returns c =
+    let start = c .before .before .before .before .before .before in
+    let side-sound = c .before .before .before .before .side-sound in
+    busy-by (start .args .c) (start .args .low) (start .args .last) (start .args .t) (start .args .r) (side-sound .ensures)
 
 pub busy-sound-spec : {M : Type 1} → statement M
 busy-sound-spec =

@@ -1,4 +1,3 @@
-use mathlib.Core.Path.{_≡_, sym, _∙_}
 use native.Mathlib.Omega.{arith}
 use Rattle.desk.proofs.CardCases.{idle-case, busy-case}
 use borrow.Author.Needs.{needs}

@@ -1,7 +1,7 @@
 use mathlib.Core.Path.{refl, sym}
 use native.Mathlib.Omega.{arith}
 use Rattle.rules.specs.Masks.{from}
-use Rattle.desk.proofs.HighBits.{from-past}
+use Rattle.desk.proofs.MaskBits.{from-past}
 use borrow.Author.Needs.{needs}
 use Rattle.desk.proofs.head.bits_from.Statement.{statement}
 use Rattle.desk.proofs.head.bits_from.Tie as tie

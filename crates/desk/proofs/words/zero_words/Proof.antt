@@ -2,8 +2,9 @@ use mathlib.Core.Path.{_≡_}
 use Prim.Native.Nat.{_-_, _≤_}
 use native.Mathlib.Omega.{arith}
 use lib.Dec.{eqb}
-use Rattle.desk.specs.Words.{zeroWords}
-use Rattle.desk.proofs.WordsRead.{words-none, words-more, words-all}
+use Rattle.desk.specs.Words.{zeroWord, zeroWords}
+use Rattle.desk.proofs.WordsRead.{words-more, words-all}
+use Rattle.desk.proofs.Every.{every-start}
 use borrow.Author.Needs.{needs}
 use Rattle.desk.proofs.words.zero_words.Statement.{statement}
 use Rattle.desk.proofs.words.zero_words.Tie as tie
@@ -17,7 +18,7 @@ abbrev μ-loop : tie.MeasureT-loop
 loop-holds : tie.Need-loop-holds Inv-loop μ-loop
 loop-holds c =
     let start = c .before in
-    (search needs, search needs, words-none (start .args .desk .now) (start .args .a))
+    (search needs, search needs, every-start (zeroWord (start .args .desk .now)) (start .args .a) (start .args .a))
 
 loop-again : tie.Need-loop-again Inv-loop μ-loop
 loop-again c =
