@@ -65,6 +65,10 @@ module _ (d t s : List ℕ) (n : ℕ) where
 
 -- ---- insert
 
+pub records : (t b : List ℕ) (i k st : ℕ) → length b ≡ 52 → {t₁ t₂ t₃ : List ℕ} → t₁ ≡ put32 t (i * 64) k → t₂ ≡ put t₁ (i * 64 + 4) (field 52 0 b) → t₃ ≡ put64 t₂ (i * 64 + 56) st
+    → t₃ ≡ put64 (put (put32 t (i * 64) k) (i * 64 + 4) b) (i * 64 + 56) st
+records t b i k st h e₁ e₂ e₃ = e₃ ∙ rw (e₂, e₁, field-all b 52 h) refl
+
 module _ (d t s : List ℕ) (k : ℕ) (b : List ℕ) (z : k ≡ 0 → ⊥) (e : kindRight b ≡ true)
     {stop : ℕ} (es : stop ≡ first (bearsOrEmpty (slotsOf t) k) 0 (length t / 64)) {at : ℕ} (ea : at ≡ first (bears (slotsOf t) k) stop (length t / 64 - stop)) where
   found : bearing (read (lent d t s) .table) k ≡ at
