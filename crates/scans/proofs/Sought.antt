@@ -1,0 +1,141 @@
+-- A walk of the code is a walk of the rule, with any budget.
+use mathlib.Core.Path.{_≡_, refl, sym, ap, _∙_}
+use mathlib.Core.Bool.{Bool, true, false}
+use mathlib.Core.List.{List, []}
+use Prim.Native.Nat.{ℕ, suc, _+_, _-_, _/_, _≤_, _<_, min}
+use native.Mathlib.Omega.{arith}
+use lib.Dec.{ltb, eqb}
+use lib.ListN.{length}
+use borrow.Author.Tests.{eqb-true, ltb-true, ltb-false}
+use Rattle.rules.specs.declared.Card.{Card}
+use Rattle.rules.specs.Bytes.{u64At}
+use Rattle.rules.specs.Calls.{slotIn, cardOf, positionOf}
+use Rattle.rules.specs.Memory.{lent, T, R, slotsOf, cardAt, deskOf, read}
+use Rattle.rules.specs.Sound.{sound}
+use Rattle.rules.proofs.Each.{length-each}
+use Rattle.laws.specs.Walks.{hitBy, hit, reach, stopAt}
+use Rattle.laws.proofs.First.{first-least, first-found, first-same}
+use Rattle.laws.proofs.Search.{waiting-shelf}
+use Rattle.laws.proofs.Slots.{count}
+use Rattle.desk.proofs.Says.{place-most, handed-most}
+use Rattle.scans.specs.declared.walk.Seen.{Seen}
+use Rattle.scans.specs.declared.walk.Walked.{Walked}
+use Rattle.scans.specs.Walked.{stopOf, walkedBy, walkedOf, hitInBy, hitIn}
+use Rattle.scans.proofs.Moves.{card-there}
+
+-- ---- what each answer of a walk says
+
+module _ (q from b end : ℕ) where
+  by-record : (x y : Bool) → walkedBy x y q from b end .seen ≡ Seen.Record → x ≡ true
+  unfolding walkedBy
+  by-record true y e = refl
+  by-record false true e = let z : _≡_ {A = ℕ} 0 1 = cc in absurd (omega arith)
+  by-record false false e = let z : _≡_ {A = ℕ} 0 1 = cc in absurd (omega arith)
+
+  by-spent : (x y : Bool) → walkedBy x y q from b end .seen ≡ Seen.Spent → (x ≡ false) × (y ≡ true)
+  unfolding walkedBy
+  by-spent true y e = let z : _≡_ {A = ℕ} 0 1 = cc in absurd (omega arith)
+  by-spent false true e = (refl, refl)
+  by-spent false false e = let z : _≡_ {A = ℕ} 0 1 = cc in absurd (omega arith)
+
+  by-end : (x y : Bool) → walkedBy x y q from b end .seen ≡ Seen.End → (x ≡ false) × (y ≡ false)
+  unfolding walkedBy
+  by-end true y e = let z : _≡_ {A = ℕ} 0 1 = cc in absurd (omega arith)
+  by-end false true e = let z : _≡_ {A = ℕ} 0 1 = cc in absurd (omega arith)
+  by-end false false e = (refl, refl)
+
+module _ (h : ℕ → Bool) (from b end : ℕ) {w : Walked} (ew : w ≡ walkedOf h from b end) where
+  pub record-says : w .seen ≡ Seen.Record → (stopOf h from b end < min (from + b) end) × (w .looks ≡ suc (stopOf h from b end) - from) × (w .left ≡ b - (suc (stopOf h from b end) - from))
+  unfolding walkedBy
+  record-says e =
+      let x : ltb (stopOf h from b end) (min (from + b) end) ≡ true =
+      by-record (stopOf h from b end) from b end _ _ (ap (λ (v : Walked). v .seen) (sym ew) ∙ e) in
+      (ltb-true _ _ x, ap (λ (v : Walked). v .looks) ew ∙ rw x refl, ap (λ (v : Walked). v .left) ew ∙ rw x refl)
+
+  pub spent-says : w .seen ≡ Seen.Spent → (min (from + b) end ≤ stopOf h from b end) × (from + b < end) × (w .looks ≡ b)
+  unfolding walkedBy
+  spent-says e =
+      let x = by-spent (stopOf h from b end) from b end _ _ (ap (λ (v : Walked). v .seen) (sym ew) ∙ e) in
+      (ltb-false _ _ (x .0), ltb-true _ _ (x .1), ap (λ (v : Walked). v .looks) ew ∙ rw (x .0, x .1) refl)
+
+  pub end-says : w .seen ≡ Seen.End → (min (from + b) end ≤ stopOf h from b end) × (end ≤ from + b) × (w .looks ≡ end - from) × (w .left ≡ b - (end - from))
+  unfolding walkedBy
+  end-says e =
+      let x = by-end (stopOf h from b end) from b end _ _ (ap (λ (v : Walked). v .seen) (sym ew) ∙ e) in
+      (ltb-false _ _ (x .0), ltb-false _ _ (x .1), ap (λ (v : Walked). v .looks) ew ∙ rw (x .0, x .1) refl, ap (λ (v : Walked). v .left) ew ∙ rw (x .0, x .1) refl)
+
+  least : from ≤ stopOf h from b end
+  least = first-least h from (min (from + b) end - from)
+
+  module _ (e : w .seen ≡ Seen.Record) where
+    pub record-some : 0 < w .looks
+    record-some = omega (arith, record-says e .1, least)
+
+    pub record-fits : from + w .looks ≤ end
+    record-fits = omega (arith, record-says e .0, record-says e .1, least)
+
+    pub record-at : from + w .looks - 1 ≡ stopOf h from b end
+    record-at = omega (arith, record-says e .1, least)
+
+  pub spent-fits : w .seen ≡ Seen.Spent → from + w .looks ≤ end
+  spent-fits e = omega (arith, spent-says e .1, spent-says e .2)
+
+  pub end-at : w .seen ≡ Seen.End → from ≤ end → from + w .looks ≡ end
+  end-at e fits = omega (arith, end-says e .2)
+
+-- ---- the scan of a ticket, and its card
+
+pub same-scan : (d t s : List ℕ) (k : ℕ) {p : ℕ} → p ≡ positionOf (read (lent d [] [])) k → positionOf (read (lent d t s)) k ≡ p
+unfolding read
+same-scan d t s k ep = sym ep
+
+module _ (d : List ℕ) (k : ℕ) {p : ℕ} (ep : p ≡ positionOf (read (lent d [] [])) k) (below : p < 64) where
+  scan-card : cardAt d p .ticket .0 ≡ k
+  scan-card =
+      let found : eqb (cardOf (read (lent d [] [])) p .ticket .0) k ≡ true = rw (← ep) at (first-found (λ i. eqb (cardOf (read (lent d [] [])) i .ticket .0) k) 0 64 (rw (← ep) (omega arith))) in
+      ap (λ (v : Card). v .ticket .0) (sym (card-there d [] [] p below)) ∙ eqb-true _ _ found
+
+  scan-busy : (k ≡ 0 → ⊥) → cardAt d p .ticket .0 ≡ 0 → ⊥
+  scan-busy z e = z (sym scan-card ∙ e)
+
+  module _ (t s : List ℕ) (ok : sound (read (lent d t s)) ≡ true) (z : k ≡ 0 → ⊥) {c : Card} (ec : c ≡ cardAt d p) where
+    pub scan-fits : c .place ≤ length t / 64 + length s / 64
+    scan-fits = rw ec (place-most d t s ok p below (scan-busy z))
+
+    pub scan-handed : c .handed ≤ c .place
+    scan-handed = rw ec (handed-most d t s ok p below (scan-busy z))
+
+-- ---- the walk
+
+hits-same : (d t s : List ℕ) {st : ℕ} → st ≡ u64At d 16 → (p j : ℕ) → hit (read (lent d t s)) p j ≡ hitIn st p (slotsOf t) (slotsOf s) j
+unfolding read deskOf hitBy hitInBy
+hits-same d t s es p j = rw es (go (ltb j (length (slotsOf t))))
+  where
+    go : (x : Bool) → hitBy x (read (lent d t s)) p j ≡ hitInBy x (u64At d 16) p (slotsOf t) (slotsOf s) j
+    go true = refl
+    go false = sym (waiting-shelf p (slotIn (slotsOf s) (j - length (slotsOf t))))
+
+module _ (d t s : List ℕ) where
+  pub ends-at : T (read (lent d t s)) + R (read (lent d t s)) ≡ length t / 64 + length s / 64
+  unfolding read
+  ends-at = rw (count t, count s) refl
+
+  module _ {p : ℕ} (below : p < 64) where
+    pub on-desk : p < length (read (lent d t s) .desk .cards)
+    unfolding read deskOf
+    on-desk = rw (length-each (cardAt d) 0 64) below
+
+    module _ {c : Card} (ec : c ≡ cardAt d p) where
+      pub card-is : cardOf (read (lent d t s)) p ≡ c
+      card-is = card-there d t s p below ∙ sym ec
+
+      pub within : c .place ≤ length t / 64 + length s / 64 → cardOf (read (lent d t s)) p .place ≤ T (read (lent d t s)) + R (read (lent d t s))
+      within fits = rw (card-is, ends-at) fits
+
+      pub reach-is : (b : ℕ) → reach (read (lent d t s)) p b ≡ min (c .place + b) (length t / 64 + length s / 64)
+      reach-is b = rw (card-is, ends-at) refl
+
+      pub stop-is : {st : ℕ} → st ≡ u64At d 16 → (b : ℕ) → stopAt (read (lent d t s)) p b ≡ stopOf (hitIn st p (slotsOf t) (slotsOf s)) (c .place) b (length t / 64 + length s / 64)
+      stop-is {st} es b =
+          rw (card-is, ends-at)
+          (first-same (hit (read (lent d t s)) p) (hitIn st p (slotsOf t) (slotsOf s)) (c .place) (min (c .place + b) (length t / 64 + length s / 64) - c .place) (λ j lo hi. hits-same d t s es p j))

@@ -1,0 +1,88 @@
+-- The ways out of begin, tally and owed, each from what its steps ensure to the rule.
+use mathlib.Core.Path.{_≡_, refl, sym, ap, _∙_}
+use mathlib.Core.Bool.{Bool, true, false, _&&_}
+use mathlib.Core.List.{List, []}
+use Prim.Native.Nat.{ℕ, _+_, _*_, _-_, _/_, _^_, _≤_, _<_}
+use native.Mathlib.Omega.{arith}
+use lib.Bits.{bitAnd, and-le-l}
+use lib.Dec.{eqb}
+use lib.ListN.{length}
+use Rattle.rules.specs.Answers.{begun as begunAnswer, owing, refused}
+use Rattle.rules.specs.Bytes.{u32At, u64At}
+use Rattle.rules.specs.Calls.{inUse, freePosition, positionOf, given, count as countOf, owedBy}
+use Rattle.rules.specs.Masks.{Masks, bit, off, NOT, scanMask, cleared, begun}
+use Rattle.rules.specs.Memory.{lent, Slot, card, slotsOf, masksOf, deskOf, read, masksBytes, cardBytes}
+use Rattle.rules.specs.Next.{told}
+use Rattle.rules.specs.Refusals.{Call, step}
+use Rattle.rules.proofs.Bytes.{Bytes, u32-small, u64-small}
+use Rattle.layout.specs.Puts.{put, put32}
+use Rattle.laws.specs.Search.{waiting}
+use Rattle.laws.proofs.Cases.{begin-full, begin-last, begin-done, owed-none, owed-goes}
+use Rattle.laws.proofs.Desks.{begin-put}
+use Rattle.laws.proofs.Search.{equal-is-off, waiting-shelf, count-same}
+use Rattle.scans.proofs.Sought.{same-scan}
+
+-- ---- begin
+
+module _ (d : List ℕ) {p n : ℕ} (ep : p ≡ freePosition (read (lent d [] []))) (en : n ≡ u32At d 0) (t s : List ℕ) where
+  same-position : freePosition (read (lent d t s)) ≡ p
+  unfolding read
+  same-position = sym ep
+
+  same-n : read (lent d t s) .desk .n ≡ n
+  unfolding read deskOf
+  same-n = sym en
+
+  same-last : read (lent d t s) .desk .last ≡ u32At d 12
+  unfolding read deskOf
+  same-last = refl
+
+  pub begins-full : n ≤ p → told (refused 9) (read (lent d t s)) [] ≡ step (read (lent d t s)) Call.begin
+  begins-full h = begin-full (read (lent d t s)) (rw (same-position, same-n) h)
+
+  module _ (h : p < n) {g : ℕ} (eg : g ≡ u32At d 12) where
+    below : freePosition (read (lent d t s)) < read (lent d t s) .desk .n
+    below = rw (same-position, same-n) h
+
+    pub begins-last : g ≡ 4294967295 → told (refused 11) (read (lent d t s)) [] ≡ step (read (lent d t s)) Call.begin
+    begins-last e = begin-last (read (lent d t s)) below (same-last ∙ sym eg ∙ e)
+
+    module _ (e : g ≡ 4294967295 → ⊥) (nd : length d ≡ 1088) (bd : Bytes d) (hn : n ≤ 64) {m m′ : Masks} (em : m ≡ masksOf d) (eb : m′ ≡ begun m p) where
+      begun-put : deskOf (put (put (put32 d 12 (g + 1)) 16 (masksBytes m′)) (64 + p * 16) (cardBytes (card (g + 1) 0 0 0))) ≡ given (read (lent d t s)) p .desk
+      unfolding given read deskOf begun cleared
+      begun-put =
+          let sg : g + 1 < 4294967296 = more g (omega (arith, eg, u32-small d 12 bd (omega arith))) e in
+          rw (eb, em)
+          (begin-put d (g + 1) (begun (masksOf d) p) p (card (g + 1) 0 0 0) nd sg
+          (u64-small d 16 bd (omega arith), omega (arith, and-le-l (u64At d 24) (NOT 64 (scanMask p)), u64-small d 24 bd (omega arith)), omega (arith, and-le-l (u64At d 32) (NOT 64 (scanMask p)), u64-small d 32 bd (omega arith)))
+          (sg, omega arith, omega arith, omega arith) (omega arith)
+          ∙ rw eg refl)
+        where
+          more : (x : ℕ) → x < 4294967296 → (x ≡ 4294967295 → ⊥) → x + 1 < 4294967296
+          more x h e = omega arith
+
+      pub begins : {d₁ d₂ d₃ : List ℕ} → d₁ ≡ put32 d 12 (g + 1) → d₂ ≡ put d₁ 16 (masksBytes m′) → d₃ ≡ put d₂ (64 + p * 16) (cardBytes (card (g + 1) 0 0 0))
+          → told (begunAnswer (g + 1)) (read (lent d₃ t s)) [] ≡ step (read (lent d t s)) Call.begin
+      unfolding read given deskOf u32At
+      begins {d₁} {d₂} {d₃} e₁ e₂ e₃ =
+          rw (e₃, e₂, e₁, begun-put)
+          (rw (eg) (rw (same-position, same-last) at (begin-done (read (lent d t s)) below (λ z. e (eg ∙ sym same-last ∙ z)))))
+
+-- ---- owed
+
+module _ (d t s : List ℕ) (k : ℕ) (z : k ≡ 0 → ⊥) {p : ℕ} (ep : p ≡ positionOf (read (lent d [] [])) k) where
+  pub owes-none : 64 ≤ p → told (refused 10) (read (lent d t s)) [] ≡ step (read (lent d t s)) (Call.owed k)
+  owes-none h = owed-none (read (lent d t s)) k z (rw (same-scan d t s k ep) h)
+
+  owed-count : {st : ℕ} → st ≡ u64At d 16 → countOf (waiting st p) (slotsOf t) + countOf (waiting 0 p) (slotsOf s) ≡ owedBy (read (lent d t s)) p
+  unfolding read deskOf
+  owed-count {st} e =
+      rw (
+        e,
+        count-same (waiting (u64At d 16) p) (λ x. inUse x && eqb (bit (x .mask) p) (bit (u64At d 16) p)) (λ x. rw (equal-is-off (u64At d 16) (x .mask) p) refl) (slotsOf t),
+        count-same (waiting 0 p) (λ x. inUse x && off (x .mask) p) (λ x. waiting-shelf p x) (slotsOf s),
+      ) refl
+
+  pub owes : p < 64 → {st a b : ℕ} → st ≡ u64At d 16 → a ≡ countOf (waiting st p) (slotsOf t) → b ≡ countOf (waiting 0 p) (slotsOf s)
+      → told (owing (a + b)) (read (lent d t s)) [] ≡ step (read (lent d t s)) (Call.owed k)
+  owes h e ea eb = rw (ea, eb, owed-count e, ← (same-scan d t s k ep)) (owed-goes (read (lent d t s)) k z (rw (same-scan d t s k ep) h))
