@@ -1,0 +1,161 @@
+-- The calls of document 01, on any lent bytes, meet demand 1.
+use mathlib.Core.Path.{_≡_, refl, sym, _∙_, subst}
+use mathlib.Core.Bool.{Bool, true, false, not, _&&_, false≢true}
+use mathlib.Core.Option.{Option, none, some}
+use mathlib.Core.List.{_∷_}
+use Prim.Native.Nat.{ℕ, _*_, _/_, _%_}
+use native.Mathlib.Omega.{arith}
+use lib.ListN.{length}
+use borrow.Author.Tests.{not-false}
+use Rattle.demands.specs.DemandOne.{SameLengths, Demand1}
+use Rattle.demands.specs.Machine.{Well, LentBytes, LengthsRight}
+use Rattle.rules.specs.Answers.{Answer, number}
+use Rattle.rules.specs.Calls.{positionOf}
+use Rattle.rules.specs.Memory.{Lent, Store, T, R, read, written}
+use Rattle.rules.specs.Refusals.{Call, Reply, ownRight, allRight, firstOf, ownRefusals, looksAtDesk, refusals, effect, outOf, writtenAll, replied, called}
+use Rattle.rules.specs.Sound.{sound}
+use Rattle.demands.proofs.Changes.{opened-fine}
+use Rattle.demands.proofs.Codec.{read-written}
+use Rattle.demands.proofs.Firsts.{Untrue, none-holds}
+use Rattle.demands.proofs.Moves.{Fine}
+use Rattle.demands.proofs.SoundDesk.{to-sound, of-sound}
+use Rattle.demands.proofs.Spelling.{to-lengths, count-read, read-sized, length-slots, length-desk, written-bytes}
+use Rattle.demands.proofs.Stays.{effect-fine, effect-kept}
+use Rattle.demands.proofs.Walks.{walk-ind}
+
+-- ---- what is known of bytes that no line refuses
+
+and-true : (a b : Bool) → a && b ≡ true → (a ≡ true) × (b ≡ true)
+and-true true b e = (refl, e)
+and-true false b e = absurd (false≢true e)
+
+pub record Accepted (l : Lent) (c : Call) : Type 0 where
+  pub own : ownRight c ≡ true
+  pub lengths : LengthsRight l
+  pub desk : looksAtDesk c ≡ true → sound (read l) ≡ true
+  pub others : Untrue (ownRefusals (read l) c)
+
+pub accepted : (l : Lent) (c : Call) → firstOf (refusals l c) ≡ none → Accepted l c
+unfolding refusals
+accepted l c e =
+    let u = none-holds ((not (allRight l c), 1) ∷ (looksAtDesk c && not (sound (read l)), 2) ∷ ownRefusals (read l) c) e in
+    let r = and-true (ownRight c) _ (not-false _ (u .0)) in
+    record { own = r .0; lengths = r .1; desk = λ d. sounds (looksAtDesk c) (sound (read l)) d (u .1 .0); others = u .1 .1 }
+  where
+    sounds : (a b : Bool) → a ≡ true → a && not b ≡ false → b ≡ true
+    sounds true true d f = refl
+    sounds true false d f = sym f
+    sounds false b d f = absurd (false≢true d)
+
+pub read-fine : (l : Lent) → LentBytes l → LengthsRight l → sound (read l) ≡ true → Fine (read l)
+unfolding read
+read-fine l a h s =
+    let n = to-lengths l h in
+    record {
+      sized = read-sized l a (n .desk);
+      sound = to-sound (read l) s;
+      slots = rw (count-read (l .table)) (n .slots);
+      small = rw (count-read (l .table), count-read (l .shelf)) (omega (arith, n .slotsMost, n .entriesMost));
+    }
+
+opening-fine : (l : Lent) → LengthsRight l → (n : ℕ) → Untrue (ownRefusals (read l) (Call.opening n)) → Fine (effect (read l) (Call.opening n) .after)
+unfolding effect ownRefusals read
+opening-fine l h n u =
+    let z = to-lengths l h in
+    opened-fine n (T (read l)) (R (read l)) (not-false _ (u .0)) (rw (count-read (l .table)) (z .slots)) (rw (count-read (l .table), count-read (l .shelf)) (omega (arith, z .slotsMost, z .entriesMost)))
+
+-- what an accepted call writes is fine
+pub accepted-fine : (l : Lent) (c : Call) → LentBytes l → Well c → Accepted l c → Fine (effect (read l) c .after)
+unfolding looksAtDesk
+accepted-fine l (Call.opening n) a w q = opening-fine l (q .lengths) n (q .others)
+accepted-fine l (Call.insert k b) a w q = effect-fine (read l) (read-fine l a (q .lengths) (q .desk refl)) (Call.insert k b) w (q .own) (q .others)
+accepted-fine l (Call.modify k b) a w q = effect-fine (read l) (read-fine l a (q .lengths) (q .desk refl)) (Call.modify k b) w (q .own) (q .others)
+accepted-fine l (Call.delete k) a w q = effect-fine (read l) (read-fine l a (q .lengths) (q .desk refl)) (Call.delete k) w (q .own) (q .others)
+accepted-fine l Call.begin a w q = effect-fine (read l) (read-fine l a (q .lengths) (q .desk refl)) Call.begin w (q .own) (q .others)
+accepted-fine l (Call.next t b o) a w q = effect-fine (read l) (read-fine l a (q .lengths) (q .desk refl)) (Call.next t b o) w (q .own) (q .others)
+accepted-fine l (Call.peek t) a w q = effect-fine (read l) (read-fine l a (q .lengths) (q .desk refl)) (Call.peek t) w (q .own) (q .others)
+accepted-fine l Call.tally a w q = effect-fine (read l) (read-fine l a (q .lengths) (q .desk refl)) Call.tally w (q .own) (q .others)
+accepted-fine l (Call.owed t) a w q = effect-fine (read l) (read-fine l a (q .lengths) (q .desk refl)) (Call.owed t) w (q .own) (q .others)
+
+-- ---- answers and the hand-out buffer
+
+pub unrefused : (S : Store) (c : Call) (k : ℕ) → effect S c .answer ≡ Answer.refused k → ⊥
+unfolding effect
+unrefused S (Call.opening n) k e = let z : _≡_ {A = ℕ} 0 1 = cc in omega arith
+unrefused S (Call.insert i b) k e = let z : _≡_ {A = ℕ} 0 1 = cc in omega arith
+unrefused S (Call.modify i b) k e = let z : _≡_ {A = ℕ} 0 1 = cc in omega arith
+unrefused S (Call.delete i) k e = let z : _≡_ {A = ℕ} 0 1 = cc in omega arith
+unrefused S Call.begin k e = let z : _≡_ {A = ℕ} 0 1 = cc in omega arith
+unrefused S (Call.next t b o) k e =
+    walk-ind (positionOf S t) o (λ X l c. Unit) (λ r. r .answer ≡ Answer.refused k → ⊥)
+    (λ X l c h d q. let z : _≡_ {A = ℕ} 0 1 = cc in omega arith) (λ X l h d q. let z : _≡_ {A = ℕ} 0 1 = cc in omega arith) (λ X l c h d q. tt)
+    (λ X l c v h d q r. let z : _≡_ {A = ℕ} 0 1 = cc in omega arith) b S 0 tt e
+unrefused S (Call.peek t) k e = let z : _≡_ {A = ℕ} 0 1 = cc in omega arith
+unrefused S Call.tally k e = let z : _≡_ {A = ℕ} 0 1 = cc in omega arith
+unrefused S (Call.owed t) k e = let z : _≡_ {A = ℕ} 0 1 = cc in omega arith
+
+pub out-left : (S : Store) (c : Call) → (number (effect S c .answer) ≡ 0 → ⊥) → effect S c .out ≡ outOf c
+unfolding effect outOf number
+out-left S (Call.opening n) d = refl
+out-left S (Call.insert i b) d = refl
+out-left S (Call.modify i b) d = refl
+out-left S (Call.delete i) d = refl
+out-left S Call.begin d = refl
+out-left S (Call.next t b o) d =
+    walk-ind (positionOf S t) o (λ X l c. Unit) (λ r. (number (r .answer) ≡ 0 → ⊥) → r .out ≡ o) (λ X l c h e q. refl) (λ X l h e q. refl) (λ X l c h e q. tt) (λ X l c v h e q f. absurd (f refl)) b S 0 tt d
+out-left S (Call.peek t) d = refl
+out-left S Call.tally d = refl
+out-left S (Call.owed t) d = refl
+
+-- ---- every clause, refused or not
+
+module _ (l : Lent) (c : Call) (a : LentBytes l) (w : Well c) where
+  -- what holds of the refused call and of the accepted one holds of the call
+  by-refusal : (P : Reply → Type 0) → ((k : ℕ) → firstOf (refusals l c) ≡ some k → P (replied (some k) l c)) → (Accepted l c → P (writtenAll (effect (read l) c))) → P (called l c)
+  unfolding called replied
+  by-refusal P x y = go (firstOf (refusals l c)) refl
+    where
+      go : (o : Option ℕ) → firstOf (refusals l c) ≡ o → P (replied (firstOf (refusals l c)) l c)
+      go (some k) e = subst (λ (o : Option ℕ). P (replied o l c)) (sym e) (x k e)
+      go none e = subst (λ (o : Option ℕ). P (replied o l c)) (sym e) (y (accepted l c e))
+
+  lengths-stay : SameLengths l (called l c .after)
+  unfolding replied written read
+  lengths-stay =
+      by-refusal (λ r. SameLengths l (r .after)) (λ k e. record { desk = refl; table = refl; shelf = refl })
+      (λ q.
+      let f = accepted-fine l c a w q in
+      let n = to-lengths l (q .lengths) in
+      let k = effect-kept (read l) c in
+      let X = effect (read l) c .after in
+      record {
+        desk = length-desk (X .desk) (f .sized .desk) ∙ sym (n .desk);
+        table = length-slots (X .table) (f .sized .table) ∙ whole (length (l .table)) (T X) (k .slots ∙ count-read (l .table)) (n .table);
+        shelf = length-slots (X .shelf) (f .sized .shelf) ∙ whole (length (l .shelf)) (R X) (k .entries ∙ count-read (l .shelf)) (n .shelf);
+      })
+    where
+      whole : (x n : ℕ) → n ≡ x / 64 → x % 64 ≡ 0 → n * 64 ≡ x
+      whole x n e z = omega arith
+
+  bytes-stay : LentBytes (called l c .after)
+  unfolding replied
+  bytes-stay = by-refusal (λ r. LentBytes (r .after)) (λ k e. a) (λ q. written-bytes (effect (read l) c .after) (accepted-fine l c a w q .sized))
+
+  sound-stays : LengthsRight l → sound (read l) ≡ true → sound (read (called l c .after)) ≡ true
+  unfolding replied
+  sound-stays h s =
+      by-refusal (λ r. sound (read (r .after)) ≡ true) (λ k e. s)
+      (λ q. let f = accepted-fine l c a w q in rw (read-written (effect (read l) c .after) (f .sized)) (of-sound (effect (read l) c .after) (f .sound)))
+
+-- "for all lent bytes and all numbers"
+pub demand-1 : Demand1 called
+unfolding called replied
+demand-1 =
+    record {
+      refuses = λ l c k a w e. rw e (refl, record { buffers = refl; handOut = refl });
+      accepts = λ l c k a w e. rw e (unrefused (read l) c k);
+      leavesOut = λ l c a w. by-refusal l c a w (λ r. (number (r .answer) ≡ 0 → ⊥) → r .out ≡ outOf c) (λ k e d. refl) (λ q. out-left (read l) c);
+      lengths = lengths-stay;
+      staysSound = sound-stays;
+      bytes = bytes-stay;
+    }

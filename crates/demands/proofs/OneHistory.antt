@@ -1,0 +1,197 @@
+-- Two machines that meet demand 2 and the rule of next, with versions put in the same places, answer every list of calls alike.
+use mathlib.Core.Path.{_≡_, refl, sym, ap, _∙_, subst}
+use mathlib.Core.Bool.{Bool, true, false, not, _||_, cond, false≢true}
+use mathlib.Core.Option.{Option, none, some}
+use mathlib.Core.List.{List, [], _∷_}
+use Prim.Native.Nat.{ℕ, _+_, _≤_}
+use native.Mathlib.Omega.{arith}
+use lib.ListN.{length, getD, set, length-set, length-replicate, length-append}
+use borrow.Author.Tests.{not-false}
+use Rattle.demands.specs.DemandTwo.{Going, Fulfils, Answers, Demand2}
+use Rattle.demands.specs.History.{Event, Version, Scan, History, awaited, needed, ticketed, onDone, onNext, runs, scanOf, heard, tells}
+use Rattle.demands.specs.Lists.{All, any, firstThat}
+use Rattle.demands.specs.Lives.{Opening, tableSlots, shelfEntries, bytesAfter, events, past}
+use Rattle.demands.specs.Machine.{Machine, Within}
+use Rattle.demands.specs.Placement.{Places, places, Taking, placeOf, shelve, moves, placed, row, LooksRight}
+use Rattle.demands.specs.Reasons.{reason, reasons}
+use Rattle.demands.specs.RuleOfNext.{Peeks, stillToCome, RuleOfNext}
+use Rattle.rules.specs.Answers.{Answer}
+use Rattle.rules.specs.Refusals.{Call}
+use Rattle.demands.proofs.Firsts.{Untrue, none-holds}
+use Rattle.demands.proofs.Lives.{refused-heard}
+use Rattle.demands.proofs.Places.{length-keep}
+use Rattle.demands.proofs.SameAnswers.{alike, one-part}
+
+-- ---- there are as many places as slots and entries
+
+pub record Sized (T R : ℕ) (p : Places) : Type 0 where
+  pub table : length (p .table) ≡ T
+  pub shelf : length (p .shelf) ≡ R
+
+module _ (take : Taking) (T R : ℕ) where
+  shelve-length : (h : History) (s : List (Option Version)) (o : Option Version) → length (shelve take h s o) ≡ length s
+  shelve-length h s none = refl
+  shelve-length h s (some v) = go (awaited h v)
+    where
+      go : (b : Bool) → length (cond b (set s (take s) (some v)) s) ≡ length s
+      go true = length-set s (take s) (some v)
+      go false = refl
+
+  on-done : (a : Answer) (x p : Places) → Sized T R x → Sized T R p → Sized T R (onDone a x p)
+  on-done Answer.done x p i j = i
+  on-done (Answer.begun t) x p i j = j
+  on-done (Answer.inHand l b) x p i j = j
+  on-done (Answer.paused l) x p i j = j
+  on-done (Answer.finished l b n) x p i j = j
+  on-done (Answer.counted r e) x p i j = j
+  on-done (Answer.owing c) x p i j = j
+  on-done (Answer.part bs) x p i j = j
+  on-done (Answer.refused k) x p i j = j
+
+  moved-sized : (h g : History) (p : Places) → Sized T R p → (c : Call) (a : Answer) → Sized T R (moves take h g p c a)
+  unfolding moves
+  moved-sized h g p i (Call.opening n) a = i
+  moved-sized h g p i (Call.insert k b) a = on-done a _ p (record { table = length-set (p .table) (take (p .table)) _ ∙ i .table; shelf = i .shelf }) i
+  moved-sized h g p i (Call.modify k b) a = on-done a _ p (record { table = length-set (p .table) _ _ ∙ i .table; shelf = shelve-length h (p .shelf) (getD (p .table) (placeOf (p .table) k) none) ∙ i .shelf }) i
+  moved-sized h g p i (Call.delete k) a = on-done a _ p (record { table = length-set (p .table) _ _ ∙ i .table; shelf = shelve-length h (p .shelf) (getD (p .table) (placeOf (p .table) k) none) ∙ i .shelf }) i
+  moved-sized h g p i Call.begin a = i
+  moved-sized h g p i (Call.next t b o) a = record { table = i .table; shelf = length-keep (awaited g) (p .shelf) ∙ i .shelf }
+  moved-sized h g p i (Call.peek t) a = i
+  moved-sized h g p i Call.tally a = i
+  moved-sized h g p i (Call.owed t) a = i
+
+  placed-sized : (es : List Event) → Sized T R (placed take T R es)
+  unfolding placed
+  placed-sized [] = record { table = length-replicate T none; shelf = length-replicate R none }
+  placed-sized (e ∷ es) = moved-sized (tells es) (tells (e ∷ es)) (placed take T R es) (placed-sized es) (e .call) (e .answer)
+
+-- ---- an answer that is right of a history and its places
+
+first-any : (t : ℕ) (l : List Scan) → any (ticketed t) l ≡ true → (s : Scan) × (firstThat (ticketed t) l ≡ some s)
+first-any t [] e = absurd (false≢true e)
+first-any t (x ∷ l) e = go (ticketed t x) refl (first-any t l)
+  where
+    go : (b : Bool) → ticketed t x ≡ b → (any (ticketed t) l ≡ true → (s : Scan) × (firstThat (ticketed t) l ≡ some s)) → (s : Scan) × (firstThat (ticketed t) (x ∷ l) ≡ some s)
+    go true q ih = (x, ap (λ (b : Bool). cond b (some x) (firstThat (ticketed t) l)) q)
+    go false q ih = let w = ih (sym (ap (λ (b : Bool). b || any (ticketed t) l) q) ∙ e) in (w .0, ap (λ (b : Bool). cond b (some x) (firstThat (ticketed t) l)) q ∙ w .1)
+
+module _ (N T R : ℕ) (h : History) (p : Places) (i : Sized T R p) where
+  abbrev Reading : Call → Answer → List ℕ → Type 0
+  Reading (Call.opening n) a out = Unit
+  Reading (Call.insert k b) a out = Unit
+  Reading (Call.modify k b) a out = Unit
+  Reading (Call.delete k) a out = Unit
+  Reading Call.begin a out = Unit
+  Reading (Call.next t b o) a out = (s : Scan) → scanOf h t ≡ some s → LooksRight (row p) s out a
+  Reading (Call.peek t) a out = (s : Scan) → scanOf h t ≡ some s → (part : List ℕ) × (a ≡ Answer.part part) × Peeks (row p) s (T + R) part
+  Reading Call.tally a out = a ≡ Answer.counted (length (h .live)) (length (needed h))
+  Reading (Call.owed t) a out = (s : Scan) → scanOf h t ≡ some s → a ≡ Answer.owing (stillToCome T h s)
+
+  pub record Right (c : Call) (a : Answer) (out : List ℕ) : Type 0 where
+    pub answers : Answers T R h (reason N T R h c) c a out
+    pub reading : reason N T R h c ≡ none → Reading c a out
+
+  abbrev Same : Call → Answer → Answer → List ℕ → List ℕ → Type 0
+  Same c a b o u = (a ≡ b) × (heard h c a o ≡ heard h c b u)
+
+  short : length (row p) ≤ T + R
+  short = omega (arith, length-append (p .table) (p .shelf), i .table, i .shelf)
+
+  running : (t : ℕ) → not (runs h t) ≡ false → (s : Scan) × (scanOf h t ≡ some s)
+  running t e = first-any t (h .running) (not-false _ e)
+
+  next-same : (t b : ℕ) (x : List ℕ) (a c : Answer) (o u : List ℕ) → Going T R h (scanOf h t) b o a → Going T R h (scanOf h t) b u c → Reading (Call.next t b x) a o → Reading (Call.next t b x) c u
+      → (a ≡ c) × (onNext a h t o ≡ onNext c h t u)
+  next-same t b x a c o u f g v w = go (scanOf h t) refl f g
+    where
+      go : (y : Option Scan) → scanOf h t ≡ y → Going T R h y b o a → Going T R h y b u c → (a ≡ c) × (onNext a h t o ≡ onNext c h t u)
+      go none e f g = absurd f
+      go (some s) e f g = let z = alike T R (row p) s b h t a c o u f (v s e) g (w s e) in (z .answers, z .tell)
+
+  granted : (c : Call) (a b : Answer) (o u : List ℕ) → Untrue (reasons N T R h c) → Fulfils T R h c a o → Fulfils T R h c b u → Reading c a o → Reading c b u → Same c a b o u
+  unfolding reasons Fulfils heard
+  granted (Call.opening n) a b o u e f g v w = (f ∙ sym g, refl)
+  granted (Call.insert k x) a b o u e f g v w = (f ∙ sym g, rw (f, g) refl)
+  granted (Call.modify k x) a b o u e f g v w = (f ∙ sym g, rw (f, g) refl)
+  granted (Call.delete k) a b o u e f g v w = (f ∙ sym g, rw (f, g) refl)
+  granted Call.begin a b o u e f g v w = (f ∙ sym g, rw (f, g) refl)
+  granted (Call.next t x y) a b o u e f g v w = next-same t x y a b o u f g v w
+  granted (Call.peek t) a b o u e f g v w =
+      let s = running t (e .0) in
+      let x = v (s .0) (s .1) in
+      let y = w (s .0) (s .1) in
+      (x .1 ∙ ap Answer.part (one-part (row p) (s .0) (T + R) short (x .0) (y .0) (x .2) (y .2)) ∙ sym (y .1), refl)
+  granted Call.tally a b o u e f g v w = (v ∙ sym w, refl)
+  granted (Call.owed t) a b o u e f g v w = let s = running t (e .0) in (v (s .0) (s .1) ∙ sym (w (s .0) (s .1)), refl)
+
+  pub same-step : (c : Call) (a b : Answer) (o u : List ℕ) → Right c a o → Right c b u → Same c a b o u
+  same-step c a b o u f g = go (reason N T R h c) refl (f .answers) (g .answers)
+    where
+      go : (x : Option ℕ) → reason N T R h c ≡ x → Answers T R h x c a o → Answers T R h x c b u → Same c a b o u
+      go none e v w = granted c a b o u (none-holds (reasons N T R h c) e) v w (f .reading e) (g .reading e)
+      go (some k) e v w =
+          (v ∙ sym w, ap (λ (x : Answer). heard h c x o) v ∙ refused-heard h c k o ∙ sym (ap (λ (x : Answer). heard h c x u) w ∙ refused-heard h c k u))
+
+-- ---- every list of calls
+
+module _ (M : Machine) (d : Demand2 M) (r : RuleOfNext M) (o : Opening) (cs : List Call) (ws : All Within cs) where
+  is-right : (c : Call) → Within c → Right (o .n) (tableSlots o) (shelfEntries o) (past M o cs) (placed (r .take) (tableSlots o) (shelfEntries o) (events M o cs)) (placed-sized (r .take) (tableSlots o) (shelfEntries o) (events M o cs)) c (M (bytesAfter M o cs) c .answer) (M (bytesAfter M o cs) c .out)
+  is-right c w = record { answers = d .answers o cs ws c w; reading = reads c w }
+    where
+      reads : (c : Call) → Within c → reason (o .n) (tableSlots o) (shelfEntries o) (past M o cs) c ≡ none
+          → Reading (o .n) (tableSlots o) (shelfEntries o) (past M o cs) (placed (r .take) (tableSlots o) (shelfEntries o) (events M o cs)) (placed-sized (r .take) (tableSlots o) (shelfEntries o) (events M o cs)) c (M (bytesAfter M o cs) c .answer) (M (bytesAfter M o cs) c .out)
+      reads (Call.opening n) w e = tt
+      reads (Call.insert k b) w e = tt
+      reads (Call.modify k b) w e = tt
+      reads (Call.delete k) w e = tt
+      reads Call.begin w e = tt
+      reads (Call.next t b x) w e = λ s is. r .looks o cs ws t b x w e s is
+      reads (Call.peek t) w e = λ s is. r .peeks o cs ws t w e s is
+      reads Call.tally w e = r .tallies o cs ws
+      reads (Call.owed t) w e = λ s is. r .owes o cs ws t w e s is
+
+module _ (M K : Machine) (d : Demand2 M) (r : RuleOfNext M) (f : Demand2 K) (g : RuleOfNext K) (same : g .take ≡ r .take) (o : Opening) where
+  abbrev T : ℕ
+  T = tableSlots o
+
+  abbrev R : ℕ
+  R = shelfEntries o
+
+  pub record OneHistory (cs : List Call) : Type 0 where
+    pub tell : past K o cs ≡ past M o cs
+    pub places : placed (g .take) (tableSlots o) (shelfEntries o) (events K o cs) ≡ placed (r .take) (tableSlots o) (shelfEntries o) (events M o cs)
+
+  module _ (cs : List Call) (ws : All Within cs) (z : OneHistory cs) (c : Call) (w : Within c) where
+    there : Right (o .n) T R (past M o cs) (placed (r .take) T R (events M o cs)) (placed-sized (r .take) T R (events M o cs)) c (K (bytesAfter K o cs) c .answer) (K (bytesAfter K o cs) c .out)
+    there = move (past M o cs) (placed (r .take) T R (events M o cs)) (placed-sized (r .take) T R (events M o cs)) (z .tell) (z .places) (is-right K f g o cs ws c w)
+      where
+        move : (h : History) (p : Places) (i : Sized T R p) → past K o cs ≡ h → placed (g .take) T R (events K o cs) ≡ p
+            → Right (o .n) T R (past K o cs) (placed (g .take) T R (events K o cs)) (placed-sized (g .take) T R (events K o cs)) c (K (bytesAfter K o cs) c .answer) (K (bytesAfter K o cs) c .out)
+            → Right (o .n) T R h p i c (K (bytesAfter K o cs) c .answer) (K (bytesAfter K o cs) c .out)
+        move h p i eh ep x =
+            resize (subst (λ (y : Places). (j : Sized T R y) → Right (o .n) T R h y j c (K (bytesAfter K o cs) c .answer) (K (bytesAfter K o cs) c .out)) ep
+            (subst (λ (y : History). (j : Sized T R (placed (g .take) T R (events K o cs))) → Right (o .n) T R y (placed (g .take) T R (events K o cs)) j c (K (bytesAfter K o cs) c .answer) (K (bytesAfter K o cs) c .out)) eh
+            (λ j. record { answers = x .answers; reading = x .reading })))
+          where
+            resize : ((j : Sized T R p) → Right (o .n) T R h p j c (K (bytesAfter K o cs) c .answer) (K (bytesAfter K o cs) c .out)) → Right (o .n) T R h p i c (K (bytesAfter K o cs) c .answer) (K (bytesAfter K o cs) c .out)
+            resize y = y i
+
+    one-step : (K (bytesAfter K o cs) c .answer ≡ M (bytesAfter M o cs) c .answer)
+        × (heard (past M o cs) c (K (bytesAfter K o cs) c .answer) (K (bytesAfter K o cs) c .out) ≡ heard (past M o cs) c (M (bytesAfter M o cs) c .answer) (M (bytesAfter M o cs) c .out))
+    one-step = same-step (o .n) T R (past M o cs) (placed (r .take) T R (events M o cs)) (placed-sized (r .take) T R (events M o cs)) c _ _ _ _ there (is-right M d r o cs ws c w)
+
+  pub one-history : (cs : List Call) → All Within cs → OneHistory cs
+  unfolding events tells placed
+  one-history [] w = record { tell = refl; places = refl }
+  one-history (c ∷ cs) w = go (one-history cs (w .1))
+    where
+      go : OneHistory cs → OneHistory (c ∷ cs)
+      go z =
+          let s = one-step cs (w .1) z c (w .0) in
+          let e : heard (past K o cs) c (K (bytesAfter K o cs) c .answer) (K (bytesAfter K o cs) c .out) ≡ heard (past M o cs) c (M (bytesAfter M o cs) c .answer) (M (bytesAfter M o cs) c .out) =
+          ap (λ (h : History). heard h c (K (bytesAfter K o cs) c .answer) (K (bytesAfter K o cs) c .out)) (z .tell) ∙ s .1 in
+          record { tell = e; places = λ i. moves (same i) (z .tell i) (e i) (z .places i) c (s .0 i) }
+
+  -- the answer to every further call
+  pub same-answers : (cs : List Call) → All Within cs → (c : Call) → Within c → K (bytesAfter K o cs) c .answer ≡ M (bytesAfter M o cs) c .answer
+  same-answers cs ws c w = one-step cs ws (one-history cs ws) c w .0

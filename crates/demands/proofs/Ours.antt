@@ -1,0 +1,14 @@
+-- The calls of document 01, on lent bytes, meet everything that is demanded.
+use Rattle.demands.specs.Page.{Meets}
+use Rattle.rules.specs.Refusals.{called}
+use Rattle.demands.proofs.DemandOne.{demand-1}
+use Rattle.demands.proofs.DemandThree.{demand-3}
+use Rattle.demands.proofs.DemandTwo.{demand-2}
+use Rattle.demands.proofs.Finishing.{ours-finish}
+use Rattle.demands.proofs.MasksMove.{masks-move}
+use Rattle.demands.proofs.NoSmaller.{ours-no-smaller}
+use Rattle.demands.proofs.Refused.{room-of-ours}
+use Rattle.demands.proofs.RuleOfNext.{rule-of-next}
+
+pub ours : Meets called
+ours = record { one = demand-1; two = demand-2; three = demand-3; masks = masks-move; next = rule-of-next; finishing = ours-finish; room = room-of-ours; tight = ours-no-smaller }

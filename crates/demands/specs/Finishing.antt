@@ -1,0 +1,55 @@
+-- "a scan finishes once it has had one look at each table slot and each shelf entry": whatever comes between, a scan that is given more
+-- calls of next than it has places left is answered finished by one of them.
+use mathlib.Core.Path.{_≡_}
+use mathlib.Core.Bool.{Bool, false, _&&_}
+use mathlib.Core.Option.{some}
+use mathlib.Core.List.{List, [], _∷_, _++_}
+use mathlib.Core.Logic.{_⊎_}
+use Prim.Native.Nat.{ℕ, _+_, _<_}
+use lib.Dec.{eqb, leb}
+use lib.ListN.{length}
+use Rattle.demands.specs.History.{Scan, scanOf}
+use Rattle.demands.specs.Lists.{All}
+use Rattle.demands.specs.Lives.{Opening, tableSlots, shelfEntries, bytesAfter, past}
+use Rattle.demands.specs.Machine.{Machine, Within}
+use Rattle.demands.specs.Masks.{one}
+use Rattle.rules.specs.Answers.{Answer}
+use Rattle.rules.specs.Refusals.{Call}
+
+-- a call of next to ticket t with a budget, and a hand-out buffer that is not refused
+abbrev pub asks : ℕ → Call → Bool
+asks t (Call.opening n) = false
+asks t (Call.insert k b) = false
+asks t (Call.modify k b) = false
+asks t (Call.delete k) = false
+asks t Call.begin = false
+asks t (Call.next u b o) = eqb u t && (leb 1 b && eqb (length o) 56)
+asks t (Call.peek u) = false
+asks t Call.tally = false
+asks t (Call.owed u) = false
+
+abbrev pub asked : ℕ → List Call → ℕ
+asked t [] = 0
+asked t (c ∷ cs) = one (asks t c) + asked t cs
+
+-- an answer of finished to ticket t
+abbrev pub Finished : ℕ → Call → Answer → Type 0
+Finished t (Call.opening n) a = ⊥
+Finished t (Call.insert k b) a = ⊥
+Finished t (Call.modify k b) a = ⊥
+Finished t (Call.delete k) a = ⊥
+Finished t Call.begin a = ⊥
+Finished t (Call.next u b o) a = (u ≡ t) × ((looks : ℕ) × (left : ℕ) × (handed : ℕ) × (a ≡ Answer.finished looks left handed))
+Finished t (Call.peek u) a = ⊥
+Finished t Call.tally a = ⊥
+Finished t (Call.owed u) a = ⊥
+
+module _ (M : Machine) (o : Opening) (cs : List Call) where
+  -- by one of the calls ds that came after cs
+  abbrev pub FinishedBy : ℕ → List Call → Type 0
+  FinishedBy t [] = ⊥
+  FinishedBy t (d ∷ ds) = Finished t d (M (bytesAfter M o (ds ++ cs)) d .answer) ⊎ FinishedBy t ds
+
+unfoldable pub Finishing : Machine → Type 0
+Finishing M =
+    (o : Opening) (cs ds : List Call) → All Within (ds ++ cs) → (t : ℕ) (s : Scan) → scanOf (past M o cs) t ≡ some s → tableSlots o + shelfEntries o < s .looks + asked t ds → FinishedBy M o cs t ds

@@ -1,0 +1,15 @@
+pub mod Lists
+pub mod Machine
+pub mod History
+pub mod Lives
+pub mod Reasons
+pub mod DemandOne
+pub mod DemandTwo
+pub mod DemandThree
+pub mod Placement
+pub mod RuleOfNext
+pub mod Masks
+pub mod Finishing
+pub mod Page
+pub mod Idle
+pub mod FirstChangeOnly

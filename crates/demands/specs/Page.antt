@@ -1,0 +1,26 @@
+-- What is demanded of a machine, on one page.
+use Rattle.demands.specs.DemandOne.{Demand1}
+use Rattle.demands.specs.DemandThree.{Demand3, AlwaysRoom, NoSmaller}
+use Rattle.demands.specs.DemandTwo.{Demand2}
+use Rattle.demands.specs.Finishing.{Finishing}
+use Rattle.demands.specs.Machine.{Machine}
+use Rattle.demands.specs.Masks.{MasksMove}
+use Rattle.demands.specs.RuleOfNext.{RuleOfNext}
+
+pub record Meets (M : Machine) : Type 0 where
+  -- every call comes back; refused by its number, and then no byte moves
+  pub one : Demand1 M
+  -- in a store we opened: refused only for a reason; a scan hands out exactly what it began with, each once
+  pub two : Demand2 M
+  -- the shelf holds one entry for each version that is still needed, and nothing more
+  pub three : Demand3 M
+  -- the masks move as in section III-A
+  pub masks : MasksMove M
+  -- the looks are those of the rule of next; peek, tally and owed accordingly
+  pub next : RuleOfNext M
+  -- whatever comes between, a scan finishes
+  pub finishing : Finishing M
+  -- a shelf of N times T entries is always large enough
+  pub room : AlwaysRoom M
+  -- and no smaller one is
+  pub tight : NoSmaller M
