@@ -43,4 +43,5 @@ pub mod NoSmaller
 pub mod BothAccepted
 pub mod FirstChangeOnly
 pub mod DemandOne
+pub mod Packing
 pub mod Ours
