@@ -42,6 +42,7 @@ pub mod ShelvesOnce
 pub mod NoSmaller
 pub mod BothAccepted
 pub mod FirstChangeOnly
+pub mod OldStore
 pub mod DemandOne
 pub mod Packing
 pub mod Ours

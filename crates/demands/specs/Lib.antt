@@ -13,3 +13,4 @@ pub mod Finishing
 pub mod Page
 pub mod Idle
 pub mod FirstChangeOnly
+pub mod OldStore
