@@ -75,7 +75,7 @@ walk S j (suc b) l o =
       | false ↦ elim (look S j .1) [ none ↦ walk (look S j .0) j b (suc l) o | some v ↦ told (Answer.inHand (suc l) b) (look S j .0) (version v) ]
     ]
 
--- ---- the machine: refused as document 01 has it (its desk is sound by its own rules), else its effect
+-- ---- the machine: refused as document 01 has it, but never by 2, as its cards are not document 01's; else its effect
 
 unfoldable pub oldEffect : Store → Call → Told
 oldEffect S (Call.opening n) = effect S (Call.opening n)
