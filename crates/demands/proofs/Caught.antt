@@ -15,6 +15,7 @@ use Rattle.demands.specs.Lists.{All}
 use Rattle.demands.specs.Lives.{Opening, tableSlots, shelfEntries, bytesAfter, events}
 use Rattle.demands.specs.Machine.{Machine, Within}
 use Rattle.demands.specs.Masks.{one}
+use Rattle.demands.specs.Placement.{lowest}
 use Rattle.demands.specs.Reasons.{reasons, reason}
 use Rattle.demands.specs.RuleOfNext.{RuleOfNext}
 use Rattle.rules.specs.Answers.{Answer}
@@ -23,9 +24,8 @@ use Rattle.rules.specs.Refusals.{Call, reply, lengthsRight, firstOf, refusedAs,
 use Rattle.demands.proofs.DemandTwo.{demand-2}
 use Rattle.demands.proofs.Finishing.{finishing}
 use Rattle.demands.proofs.OneHistory.{same-answers}
-use Rattle.demands.proofs.RuleOfNext.{rule-of-next, takes-lowest}
+use Rattle.demands.proofs.RuleOfNext.{rule-of-next}
 use Rattle.demands.proofs.Sizes.{zero-bytes}
-use Rattle.demands.proofs.Steps.{lowest}
 
 -- a store of n positions, one slot and r entries, over zero bytes
 unfoldable pub small : (n r : ℕ) → Lent
@@ -113,8 +113,8 @@ leaves-every-byte-caught M stay d =
 
 -- ---- invented looks or handed counts
 
-pub invents-caught : (M : Machine) → Invents M → Demand2 M → (r : RuleOfNext M) → r .take ≡ lowest → ⊥
-invents-caught M w d r e = w .otherwise (same-answers called M demand-2 rule-of-next d r (e ∙ sym takes-lowest) (w .opening) (w .calls) (w .within) (w .call) (w .passable))
+pub invents-caught : (M : Machine) → Invents M → Demand2 M → RuleOfNext M lowest → ⊥
+invents-caught M w d r = w .otherwise (same-answers called M lowest demand-2 rule-of-next d r (w .opening) (w .calls) (w .within) (w .call) (w .passable))
 
 -- ---- why both: demand 3 alone lets a store through that refuses all calls
 

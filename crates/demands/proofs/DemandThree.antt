@@ -14,21 +14,27 @@ use Rattle.demands.proofs.Lives.{Living, all-live}
 use Rattle.demands.proofs.Marks.{SlotOK, EntryOK}
 
 module _ (n t r : ℕ) (l : Lent) (h : History) (p : Places) (v : Living n t r l h p) where
-  unfoldable pub shelf-holds : Holds (l .shelf) (needed h)
-  unfolding read
-  shelf-holds = record { which = p .shelf; all = v .keeps .entries ∙ sym (v .keeps .isR); each = v .keeps .shelved; spelt = λ i. go i (getD (p .shelf) i none) (v .keeps .marks .entries i) }
+  pub slot-reads : (j : ℕ) → Reads (slotIn (read l .table) j) (getD (p .table) j none)
+  slot-reads j = go (getD (p .table) j none) (v .keeps .marks .slots j)
     where
-      go : (i : ℕ) (o : Option Version) → EntryOK (read l .desk .masks) (aw (v .seats)) (placeIn (t + r) (v .seats)) t i (slotIn (slotsOf (l .shelf)) i) o → Reads (slotIn (slotsOf (l .shelf)) i) o
-      go i none e = e
-      go i (some x) e = (e .number, e .body)
+      go : (o : Option Version) → SlotOK (read l .desk .masks) (aw (v .seats)) (placeIn (t + r) (v .seats)) t j (slotIn (read l .table) j) o → Reads (slotIn (read l .table) j) o
+      go none e = e
+      go (some x) e = (e .number, e .body)
 
-  unfoldable pub table-holds : Holds (l .table) (h .live)
-  unfolding read
-  table-holds = record { which = p .table; all = v .keeps .slots ∙ sym (v .keeps .isT); each = v .keeps .tabled; spelt = λ i. go i (getD (p .table) i none) (v .keeps .marks .slots i) }
+  pub entry-reads : (k : ℕ) → Reads (slotIn (read l .shelf) k) (getD (p .shelf) k none)
+  entry-reads k = go (getD (p .shelf) k none) (v .keeps .marks .entries k)
     where
-      go : (i : ℕ) (o : Option Version) → SlotOK (read l .desk .masks) (aw (v .seats)) (placeIn (t + r) (v .seats)) t i (slotIn (slotsOf (l .table)) i) o → Reads (slotIn (slotsOf (l .table)) i) o
-      go i none e = e
-      go i (some x) e = (e .number, e .body)
+      go : (o : Option Version) → EntryOK (read l .desk .masks) (aw (v .seats)) (placeIn (t + r) (v .seats)) t k (slotIn (read l .shelf) k) o → Reads (slotIn (read l .shelf) k) o
+      go none e = e
+      go (some x) e = (e .number, e .body)
+
+  shelf-holds : Holds (l .shelf) (needed h)
+  unfolding read
+  shelf-holds = record { which = p .shelf; all = v .keeps .entries ∙ sym (v .keeps .isR); each = v .keeps .shelved; spelt = entry-reads }
+
+  table-holds : Holds (l .table) (h .live)
+  unfolding read
+  table-holds = record { which = p .table; all = v .keeps .slots ∙ sym (v .keeps .isT); each = v .keeps .tabled; spelt = slot-reads }
 
 pub demand-3 : Demand3 called
 demand-3 = record { shelf = λ o a cs ws. shelf-holds _ _ _ _ _ _ (all-live o cs ws); table = λ o a cs ws. table-holds _ _ _ _ _ _ (all-live o cs ws) }

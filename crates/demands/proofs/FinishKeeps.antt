@@ -75,10 +75,10 @@ module _ (n t r : ℕ) (S : Store) (h : History) (gt gs : List (Option Version))
   abbrev sc₃ : List (Option Scan)
   sc₃ = map (keep goes-on) sc
 
-  own : getD sc₃ p none ≡ none
+  pub own : getD sc₃ p none ≡ none
   own = getD-keep goes-on sc p ∙ ap (keep goes-on) here ∙ rw (eq-eqb (s .ticket) (s .ticket) refl) refl
 
-  other : (i : ℕ) → (i ≡ p → ⊥) → getD sc₃ i none ≡ getD sc i none
+  pub other : (i : ℕ) → (i ≡ p → ⊥) → getD sc₃ i none ≡ getD sc i none
   other i d = getD-keep goes-on sc i ∙ go (getD sc i none) refl
     where
       go : (x : Option Scan) → getD sc i none ≡ x → keep goes-on (getD sc i none) ≡ getD sc i none

@@ -18,7 +18,7 @@ use Rattle.demands.specs.Idle.{buffer}
 use Rattle.demands.specs.Lists.{standing}
 use Rattle.demands.specs.Lives.{tableSlots, shelfEntries, bytesAfter, events, past}
 use Rattle.demands.specs.Machine.{Within}
-use Rattle.demands.specs.Placement.{placed}
+use Rattle.demands.specs.Placement.{lowest, placesAfter}
 use Rattle.demands.specs.Reasons.{reasons, reason}
 use Rattle.rules.specs.Answers.{Answer}
 use Rattle.rules.specs.Bytes.{toLe}
@@ -41,7 +41,6 @@ use Rattle.demands.proofs.Moves.{Fine}
 use Rattle.demands.proofs.Places.{at-standing}
 use Rattle.demands.proofs.ShelvesOnce.{AcceptsBoth, pair, first, second, first-within, second-within, body-bytes, four, four-needs, in-use-is, one-in-use, two-in-use}
 use Rattle.demands.proofs.Sizes.{SlotSized, zero-bytes, set-all}
-use Rattle.demands.proofs.Steps.{lowest}
 use Rattle.demands.proofs.Walks.{walk-ind}
 
 -- ---- where it does not differ from the store of document 01
@@ -169,7 +168,7 @@ accepts =
       last = answer₅;
     }
 
-living : Living (pair .n) (tableSlots pair) (shelfEntries pair) l₄ (past called pair (Call.begin ∷ first)) (placed lowest (tableSlots pair) (shelfEntries pair) (events called pair (Call.begin ∷ first)))
+living : Living (pair .n) (tableSlots pair) (shelfEntries pair) l₄ (past called pair (Call.begin ∷ first)) (placesAfter called lowest pair (Call.begin ∷ first))
 living = all-live pair (Call.begin ∷ first) (second-within .1)
 
 body-length : (x : ℕ) → length (bodyOf x) ≡ 52

@@ -57,6 +57,15 @@ module _ (q : ℕ → Bool) where
       go true e = absurd (omega (arith, first-lowest i n j k l e))
       go false e = e
 
+-- tests that agree find the same
+pub first-same : (q r : ℕ → Bool) (i n : ℕ) → ((j : ℕ) → j < i + n → q j ≡ r j) → first q i n ≡ first r i n
+first-same q r i zero f = none-there q i ∙ sym (none-there r i)
+first-same q r i (suc n) f = go (q i) refl (first-same q r (suc i) n (λ j h. f j (omega arith)))
+  where
+    go : (b : Bool) → q i ≡ b → first q (suc i) n ≡ first r (suc i) n → first q i (suc n) ≡ first r i (suc n)
+    go true e ih = hit q i n e ∙ sym (hit r i n (sym (f i (omega arith)) ∙ e))
+    go false e ih = miss q i n e ∙ ih ∙ sym (miss r i n (sym (f i (omega arith)) ∙ e))
+
 -- ---- the first refusal
 
 abbrev pub Untrue : List (Bool × ℕ) → Type 0

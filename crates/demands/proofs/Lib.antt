@@ -24,12 +24,16 @@ pub mod ShelfLooks
 pub mod FinishKeeps
 pub mod NextKeeps
 pub mod ReasonsAre
+pub mod Positions
 pub mod Steps
 pub mod Lives
 pub mod DemandTwo
 pub mod DemandThree
 pub mod Turns
 pub mod MasksMove
+pub mod Spelt
+pub mod MaskMoves
+pub mod TableOne
 pub mod Counts
 pub mod RuleOfNext
 pub mod AnyMachine

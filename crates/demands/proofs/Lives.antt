@@ -3,15 +3,15 @@ use mathlib.Core.Path.{_≡_, refl, sym, ap, _∙_, subst}
 use mathlib.Core.Bool.{Bool, true, false, not, _&&_, and-true, and-false}
 use mathlib.Core.Option.{Option, none, some, Option·some-ne-none}
 use mathlib.Core.List.{List, [], _∷_, map}
-use Prim.Native.Nat.{ℕ, _+_, _≤_, _<_}
+use Prim.Native.Nat.{ℕ, zero, suc, _+_, _≤_, _<_}
 use native.Mathlib.Omega.{arith}
 use lib.ListN.{getD, replicate, length-replicate}
 use Rattle.demands.specs.DemandTwo.{Answers}
-use Rattle.demands.specs.History.{Version, Scan, History, history, awaited, heard, tells}
+use Rattle.demands.specs.History.{Version, Scan, History, history, awaited, runs, heard, tells}
 use Rattle.demands.specs.Lists.{All, keep, Permutation}
 use Rattle.demands.specs.Lives.{Opening, tableSlots, shelfEntries, bytesAfter, events, past}
 use Rattle.demands.specs.Machine.{Well, Within, LentBytes, LengthsRight}
-use Rattle.demands.specs.Placement.{Places, places, moves, placed}
+use Rattle.demands.specs.Placement.{lowest, Places, places, moves, placesAfter, placed}
 use Rattle.demands.specs.Reasons.{reason}
 use Rattle.rules.specs.Calls.{opened, slotIn}
 use Rattle.rules.specs.Memory.{Lent, free, idle, Store, R, read, written}
@@ -25,11 +25,12 @@ use Rattle.demands.proofs.Marks.{SlotOK, EntryOK}
 use Rattle.demands.proofs.NextKeeps.{shelf-awaited}
 use Rattle.demands.proofs.Past.{opened-past}
 use Rattle.demands.proofs.Places.{standing-none}
+use Rattle.demands.proofs.Positions.{tickets, all-run}
 use Rattle.demands.proofs.ReasonsAre.{same-first, skip-first, reasons-are}
 use Rattle.demands.proofs.Sizes.{replicate-all}
 use Rattle.demands.proofs.SoundDesk.{of-sound, range}
 use Rattle.demands.proofs.Spelling.{to-lengths, count-read}
-use Rattle.demands.proofs.Steps.{lowest, Stepped, steps}
+use Rattle.demands.proofs.Steps.{Stepped, steps}
 
 pub accepted-is : (l : Lent) (c : Call) → firstOf (refusals l c) ≡ none → called l c ≡ writtenAll (effect (read l) c)
 unfolding called replied
@@ -45,6 +46,7 @@ pub record Living (n t r : ℕ) (l : Lent) (h : History) (p : Places) : Type 0 w
   pub lengths : LengthsRight l
   pub seats : List (Option Scan)
   pub keeps : Inv n t r (read l) h (p .table) (p .shelf) seats
+  pub sits : p .positions ≡ tickets seats
 
 pub well : (c : Call) → Within c → Well c
 well (Call.opening n) w = w .0
@@ -119,7 +121,7 @@ module _ (o : Opening) where
   pub opening-reads : read (bytesAfter called o []) ≡ opened (o .n) (tableSlots o) (shelfEntries o)
   opening-reads = ap read opening-writes ∙ read-written (opened (o .n) (tableSlots o) (shelfEntries o)) (opened-inv-of .fine .sized)
 
-  pub opening-lives : Living (o .n) (tableSlots o) (shelfEntries o) (bytesAfter called o []) (past called o []) (placed lowest (tableSlots o) (shelfEntries o) (events called o []))
+  pub opening-lives : Living (o .n) (tableSlots o) (shelfEntries o) (bytesAfter called o []) (past called o []) (placesAfter called lowest o [])
   unfolding bytesAfter events tells placed
   opening-lives =
       let w = demand-1 .lengths (o .old) (Call.opening (o .n)) (o .bytes) (small (o .n) (o .inRange)) in
@@ -129,8 +131,13 @@ module _ (o : Opening) where
         seats = replicate (o .n) none;
         keeps = subst (λ (S : Store). Inv (o .n) (tableSlots o) (shelfEntries o) S (history 0 [] [] 0 []) (replicate (tableSlots o) none) (replicate (shelfEntries o) none) (replicate (o .n) none))
             (sym opening-reads) opened-inv-of;
+        sits = no-tickets (o .n);
       }
     where
+      no-tickets : (n : ℕ) → replicate n none ≡ tickets (replicate n none)
+      no-tickets zero = refl
+      no-tickets (suc n) = ap (λ (l : List (Option ℕ)). none ∷ l) (no-tickets n)
+
       small : (n : ℕ) → nInRange n ≡ true → n < 4294967296
       small n e = let w = range n e in let y : n ≤ 64 = w .1 in omega arith
 
@@ -148,17 +155,17 @@ refused-heard h (Call.peek t) k o = refl
 refused-heard h Call.tally k o = refl
 refused-heard h (Call.owed t) k o = refl
 
-refused-moves : (h : History) (p : Places) (c : Call) (k : ℕ) → map (keep (awaited h)) (p .shelf) ≡ p .shelf → moves lowest h h p c (refusedAs c k) ≡ p
+pub refused-moves : (h : History) (p : Places) (c : Call) (k : ℕ) → map (keep (awaited h)) (p .shelf) ≡ p .shelf → map (keep (runs h)) (p .positions) ≡ p .positions → moves lowest h h p c (refusedAs c k) ≡ p
 unfolding moves refusedAs
-refused-moves h p (Call.opening n) k e = refl
-refused-moves h p (Call.insert i b) k e = refl
-refused-moves h p (Call.modify i b) k e = refl
-refused-moves h p (Call.delete i) k e = refl
-refused-moves h p Call.begin k e = refl
-refused-moves h p (Call.next t b u) k e = ap (λ (s : List (Option Version)). places (p .table) s) e
-refused-moves h p (Call.peek t) k e = refl
-refused-moves h p Call.tally k e = refl
-refused-moves h p (Call.owed t) k e = refl
+refused-moves h p (Call.opening n) k e f = refl
+refused-moves h p (Call.insert i b) k e f = refl
+refused-moves h p (Call.modify i b) k e f = refl
+refused-moves h p (Call.delete i) k e f = refl
+refused-moves h p Call.begin k e f = refl
+refused-moves h p (Call.next t b u) k e f = λ i. places (p .table) (e i) (f i)
+refused-moves h p (Call.peek t) k e f = refl
+refused-moves h p Call.tally k e f = refl
+refused-moves h p (Call.owed t) k e f = refl
 
 -- ---- one more call
 
@@ -179,7 +186,7 @@ module _ (n t r : ℕ) (l : Lent) (h : History) (p : Places) (v : Living n t r l
   pub record Lived (x : Reply) : Type 0 where
     pub lives : Living n t r (x .after) (heard h c (x .answer) (x .out)) (later x)
     pub answers : Answers t r h (reason n t r h c) c (x .answer) (x .out)
-    pub stepped : reason n t r h c ≡ none → Stepped n t r (read l) h (p .table) (p .shelf) (v .seats) (v .keeps) c (x .answer) (effect (read l) c .after) (x .out)
+    pub stepped : reason n t r h c ≡ none → Stepped n t r (read l) h (p .table) (p .shelf) (v .seats) (v .keeps) (p .positions) (v .sits) c (x .answer) (effect (read l) c .after) (x .out)
 
   refused-lives : (k : ℕ) → reason n t r h c ≡ some k → Lived (replied (some k) l c)
   unfolding replied
@@ -193,12 +200,12 @@ module _ (n t r : ℕ) (l : Lent) (h : History) (p : Places) (v : Living n t r l
       same-places : moves lowest h (heard h c (refusedAs c k) (outOf c)) p c (refusedAs c k) ≡ p
       same-places =
           ap (λ (y : History). moves lowest h y p c (refusedAs c k)) (refused-heard h c k (outOf c))
-          ∙ refused-moves h p c k (shelf-awaited n t r (read l) h (p .table) (p .shelf) (v .seats) (v .keeps))
+          ∙ refused-moves h p c k (shelf-awaited n t r (read l) h (p .table) (p .shelf) (v .seats) (v .keeps)) (all-run n t r (read l) h (p .table) (p .shelf) (v .seats) (v .keeps) (p .positions) (v .sits))
 
   accepted-lives : firstOf (refusals l c) ≡ none → Lived (called l c)
   accepted-lives e =
       let a = accepted l c e in
-      let s = steps n t r (read l) h (p .table) (p .shelf) (v .seats) (v .keeps) c w (a .own) (a .others) in
+      let s = steps n t r (read l) h (p .table) (p .shelf) (v .seats) (v .keeps) (p .positions) (v .sits) c w (a .own) (a .others) in
       let d = demand-1 .lengths l c (v .bytes) (well c w) in
       let f : called l c ≡ writtenAll (effect (read l) c) = accepted-is l c e in
       let b = demand-1 .bytes l c (v .bytes) (well c w) in
@@ -210,6 +217,7 @@ module _ (n t r : ℕ) (l : Lent) (h : History) (p : Places) (v : Living n t r l
           lengths = subst (λ (y : Reply). LengthsRight (y .after)) f g;
           seats = s .seats;
           keeps = rw (read-written (effect (read l) c .after) (s .keeps .fine .sized)) (s .keeps);
+          sits = s .sits;
         };
         answers = subst (λ (y : Option ℕ). Answers t r h y c (effect (read l) c .answer) (effect (read l) c .out)) (sym e ∙ refusals-are) (s .fulfils);
         stepped = λ _. s;
@@ -225,8 +233,8 @@ module _ (n t r : ℕ) (l : Lent) (h : History) (p : Places) (v : Living n t r l
 -- ---- any calls
 
 module _ (o : Opening) where
-  pub all-live : (cs : List Call) → All Within cs → Living (o .n) (tableSlots o) (shelfEntries o) (bytesAfter called o cs) (past called o cs) (placed lowest (tableSlots o) (shelfEntries o) (events called o cs))
+  pub all-live : (cs : List Call) → All Within cs → Living (o .n) (tableSlots o) (shelfEntries o) (bytesAfter called o cs) (past called o cs) (placesAfter called lowest o cs)
   unfolding bytesAfter events tells placed
   all-live [] w = opening-lives o
   all-live (c ∷ cs) w =
-      call-lives (o .n) (tableSlots o) (shelfEntries o) (bytesAfter called o cs) (past called o cs) (placed lowest (tableSlots o) (shelfEntries o) (events called o cs)) (all-live cs (w .1)) c (w .0) .lives
+      call-lives (o .n) (tableSlots o) (shelfEntries o) (bytesAfter called o cs) (past called o cs) (placesAfter called lowest o cs) (all-live cs (w .1)) c (w .0) .lives

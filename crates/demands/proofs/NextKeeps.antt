@@ -1,7 +1,7 @@
 -- Next keeps the invariant, answers as demand 2 has it, and looks as the rule of next has it.
 use mathlib.Core.Path.{_≡_, refl, sym, ap, _∙_, subst}
 use mathlib.Core.Bool.{Bool, true, false, not, cond}
-use mathlib.Core.Option.{Option, none, some}
+use mathlib.Core.Option.{Option, none, some, Option·map}
 use mathlib.Core.List.{List, [], _∷_, _++_, map}
 use Prim.Native.Nat.{ℕ, suc, _+_, _-_, _≤_, _<_}
 use native.Mathlib.Nat.{add-zero, add-assoc}
@@ -10,21 +10,21 @@ use native.Mathlib.Decide.{ℕ-discrete}
 use lib.Dec.{ltb}
 use lib.ListN.{length, getD, List·getD-append}
 use lib.Seq.{getD-append-add}
-use borrow.Author.Tests.{eqb-true, eqb-false, ltb-true, ltb-false}
+use borrow.Author.Tests.{eqb-true, eqb-false, eq-eqb, ltb-true, ltb-false}
 use Rattle.demands.specs.DemandTwo.{Goes}
-use Rattle.demands.specs.History.{Version, Scan, scan, History, history, reads, awaits, awaited, ticketed, onward, goesOn, goes, finishes, onNext}
-use Rattle.demands.specs.Lists.{those, keep}
+use Rattle.demands.specs.History.{Version, Scan, scan, History, history, reads, awaits, awaited, ticketed, onward, goesOn, goes, finishes, runs, onNext}
+use Rattle.demands.specs.Lists.{any, those, keep}
 use Rattle.demands.specs.Placement.{due, Passes, LooksRight}
 use Rattle.rules.specs.Answers.{Answer, inHand, paused, finished}
 use Rattle.rules.specs.Calls.{cardOf}
 use Rattle.rules.specs.Memory.{Slot, Store, T, R, version}
 use Rattle.rules.specs.Next.{inTable, onShelf, tableLook, shelfLook, lookAt, look, atEnd, finish, walk}
 use Rattle.demands.proofs.Awaits.{awaits-passed}
-use Rattle.demands.proofs.FinishKeeps.{exactly-once, finish-keeps}
-use Rattle.demands.proofs.GoesOn.{seats-on, own}
+use Rattle.demands.proofs.FinishKeeps.{exactly-once, finish-keeps, own as finished-own, other as finished-other}
+use Rattle.demands.proofs.GoesOn.{seats-on, own, other}
 use Rattle.demands.proofs.Invariant.{Inv, seat, busy, runs-at, at-live, at-needed, slot-of, entry-of}
-use Rattle.demands.proofs.Lists.{In, in-left, in-right}
-use Rattle.demands.proofs.Past.{ever, awaited-began}
+use Rattle.demands.proofs.Lists.{In, any-in, in-left, in-right}
+use Rattle.demands.proofs.Past.{ever, ticketOf, awaited-began}
 use Rattle.demands.proofs.Places.{At, keep-all}
 use Rattle.demands.proofs.ShelfLooks.{shelf-found, shelf-not-here, shelf-pass-keeps, shelf-hit-keeps}
 use Rattle.demands.proofs.TableLooks.{table-found, table-not-here, table-pass-keeps, table-hit-keeps}
@@ -68,6 +68,15 @@ finishes-after h t a = ap (λ (l : List Scan). history (h .changes) (h .live) (h
     all [] = refl
     all (u ∷ l) = one u (those (λ s. not (ticketed t s)) (map (goesOn t a []) l)) (those (λ s. not (ticketed t s)) l) (all l) (ticketed t u) refl
 
+-- no scan of a ticket runs where those of that ticket are left out
+left-out : (t : ℕ) (l : List Scan) → any (ticketed t) (those (λ s. not (ticketed t s)) l) ≡ false
+left-out t [] = refl
+left-out t (s ∷ l) = go (ticketed t s) refl (left-out t l)
+  where
+    go : (b : Bool) → ticketed t s ≡ b → any (ticketed t) (those (λ s. not (ticketed t s)) l) ≡ false → any (ticketed t) (those (λ s. not (ticketed t s)) (s ∷ l)) ≡ false
+    go true e ih = rw e ih
+    go false e ih = rw e (rw e ih)
+
 -- ---- one look
 
 -- "the 56 bytes of number and body"
@@ -84,6 +93,9 @@ module _ (n t r : ℕ) (S : Store) (h : History) (gt gs : List (Option Version))
   -- nothing on the shelf is unawaited
   pub shelf-awaited : map (keep (awaited h)) gs ≡ gs
   shelf-awaited = keep-all (awaited h) gs (λ k v e. at-needed n t r S h gt gs sc q k v e .1)
+
+  pub ticket-runs : (i : ℕ) (s : Scan) → At sc i s → runs h (s .ticket) ≡ true
+  ticket-runs i s e = any-in (ticketed (s .ticket)) (h .running) s (runs-at n t r S h gt gs sc q i s e) (eq-eqb (s .ticket) (s .ticket) refl)
 
   module _ (p : ℕ) (s : Scan) (here : At sc p s) (more : s .looks < t + r) where
     -- a version that the look brought, and the bytes it is handed out as
@@ -166,6 +178,7 @@ module _ (n t r : ℕ) (S : Store) (h : History) (gt gs : List (Option Version))
     pub seats : List (Option Scan)
     pub keeps : Inv n t r X (goes h (s .ticket) l []) gt gs seats
     pub there : At seats p (onward l [] s)
+    pub others : (i : ℕ) → (i ≡ p → ⊥) → getD seats i none ≡ getD sc i none
     pub spent : l + b ≡ budget
     pub passes : Passes (gt ++ gs) s l
 
@@ -173,6 +186,9 @@ module _ (n t r : ℕ) (S : Store) (h : History) (gt gs : List (Option Version))
   pub record Answered (a : Answer) (X : Store) (out : List ℕ) : Type 0 where
     pub seats : List (Option Scan)
     pub keeps : Inv n t r X (onNext a h (s .ticket) out) gt (map (keep (awaited (onNext a h (s .ticket) out))) gs) seats
+    -- the scan's own position, and the others
+    pub own : keep (runs (onNext a h (s .ticket) out)) (some (s .ticket)) ≡ Option·map ticketOf (getD seats p none)
+    pub others : (i : ℕ) → (i ≡ p → ⊥) → getD seats i none ≡ getD sc i none
     pub right : Goes t r s budget out a
     pub looks : LooksRight (gt ++ gs) s out a
 
@@ -182,6 +198,7 @@ module _ (n t r : ℕ) (S : Store) (h : History) (gt gs : List (Option Version))
         seats = sc;
         keeps = subst (λ (g : History). Inv n t r S g gt gs sc) (sym (goes-none h (s .ticket))) q;
         there = here ∙ ap some (ap (λ (l : ℕ). scan (s .ticket) (s .began) (s .handed) l) (sym (add-zero (s .looks))));
+        others = λ i d. refl;
         spent = omega arith;
         passes = λ i k. absurd (omega arith);
       }
@@ -215,6 +232,8 @@ module _ (n t r : ℕ) (S : Store) (h : History) (gt gs : List (Option Version))
           seats = map (keep (λ u. not (ticketed (s .ticket) u))) (g .seats);
           keeps = subst (λ (y : List (Option Version)). Inv n t r (finish X p) (finishes h (s .ticket)) gt y (map (keep (λ u. not (ticketed (s .ticket) u))) (g .seats)))
               (sym (shelf-awaited n t r (finish X p) (finishes h (s .ticket)) gt gs (map (keep (λ u. not (ticketed (s .ticket) u))) (g .seats)) k)) k;
+          own = rw (left-out (s .ticket) (h .running), finished-own n t r X g₁ gt gs (g .seats) (g .keeps) p (onward l [] s) (g .there) z) refl;
+          others = λ i d. finished-other n t r X g₁ gt gs (g .seats) (g .keeps) p (onward l [] s) (g .there) z i d ∙ g .others i d;
           right = (exactly-once n t r X g₁ gt gs (g .seats) (g .keeps) p (onward l [] s) (g .there) z, seat n t r X g₁ gt gs (g .seats) (g .keeps) p (onward l [] s) (g .there) .handed, g .spent, z);
           looks = g .passes;
         }
@@ -224,6 +243,8 @@ module _ (n t r : ℕ) (S : Store) (h : History) (gt gs : List (Option Version))
         record {
           seats = g .seats;
           keeps = subst (λ (y : List (Option Version)). Inv n t r X (goes h (s .ticket) l []) gt y (g .seats)) (sym unshelved) (g .keeps);
+          own = rw (ticket-runs n t r X (goes h (s .ticket) l []) gt gs (g .seats) (g .keeps) p (onward l [] s) (g .there), g .there) refl;
+          others = g .others;
           right = (omega (arith, g .spent), not-end e);
           looks = g .passes;
         }
@@ -251,6 +272,7 @@ module _ (n t r : ℕ) (S : Store) (h : History) (gt gs : List (Option Version))
           seats = seats-on n t r X g₁ gt gs (g .seats) (g .keeps) p s₁ (g .there) 1 [];
           keeps = subst (λ (x : History). Inv n t r (look X p .0) x gt gs (seats-on n t r X g₁ gt gs (g .seats) (g .keeps) p s₁ (g .there) 1 [])) (one-more []) (w .keeps);
           there = own n t r X g₁ gt gs (g .seats) (g .keeps) p s₁ (g .there) 1 [] ∙ ap some (ap (λ (y : ℕ). scan (s .ticket) (s .began) (s .handed) y) (plus (s .looks) l));
+          others = λ i d. other n t r X g₁ gt gs (g .seats) (g .keeps) p s₁ (g .there) 1 [] i d ∙ g .others i d;
           spent = omega (arith, g .spent);
           passes = λ i k. passes w i k (ℕ-discrete i l);
         }
@@ -271,10 +293,14 @@ module _ (n t r : ℕ) (S : Store) (h : History) (gt gs : List (Option Version))
         let f : Brought n t r X g₁ gt gs (g .seats) (g .keeps) p s₁ (g .there) (not-end X l (suc b) g e) (look X p .0) w = looked (some w) z in
         let a : awaits s (f .version) ≡ true = sym (awaits-passed l s (f .version)) ∙ f .waited in
         let k = subst (λ (x : History). Inv n t r (look X p .0) x gt (map (keep (awaited x)) gs) (seats-on n t r X g₁ gt gs (g .seats) (g .keeps) p s₁ (g .there) 1 (reads (f .version) ∷ []))) (one-more (reads (f .version) ∷ [])) (f .keeps) in
+        let u : List (Option Scan) = seats-on n t r X g₁ gt gs (g .seats) (g .keeps) p s₁ (g .there) 1 (reads (f .version) ∷ []) in
+        let e₁ : At u p (onward 1 (reads (f .version) ∷ []) s₁) = own n t r X g₁ gt gs (g .seats) (g .keeps) p s₁ (g .there) 1 (reads (f .version) ∷ []) in
+        let m = subst (λ (x : List ℕ). Inv n t r (look X p .0) (goes h (s .ticket) (suc l) (x ∷ [])) gt (map (keep (awaited (goes h (s .ticket) (suc l) (x ∷ [])))) gs) u) (sym (f .bytes)) k in
         record {
-          seats = seats-on n t r X g₁ gt gs (g .seats) (g .keeps) p s₁ (g .there) 1 (reads (f .version) ∷ []);
-          keeps = subst (λ (x : List ℕ). Inv n t r (look X p .0) (goes h (s .ticket) (suc l) (x ∷ [])) gt (map (keep (awaited (goes h (s .ticket) (suc l) (x ∷ [])))) gs) (seats-on n t r X g₁ gt gs (g .seats) (g .keeps) p s₁ (g .there) 1 (reads (f .version) ∷ [])))
-              (sym (f .bytes)) k;
+          seats = u;
+          keeps = m;
+          own = rw (ticket-runs n t r (look X p .0) (goes h (s .ticket) (suc l) (slotReads w ∷ [])) gt _ u m p (onward 1 (reads (f .version) ∷ []) s₁) e₁, e₁) refl;
+          others = λ i d. other n t r X g₁ gt gs (g .seats) (g .keeps) p s₁ (g .there) 1 (reads (f .version) ∷ []) i d ∙ g .others i d;
           right = ((f .version, awaited-began h (q .past) s (runs-at n t r S h gt gs sc q p s here) (f .version) (f .made) a, a, f .bytes), omega arith, omega (arith, g .spent), omega (arith, not-end X l (suc b) g e));
           looks = (l, refl, g .passes, (f .version, f .stands, a, f .bytes));
         }

@@ -12,7 +12,7 @@ use Rattle.demands.specs.History.{Event, Version, Scan, History, awaited
 use Rattle.demands.specs.Lists.{All, any, firstThat}
 use Rattle.demands.specs.Lives.{Opening, tableSlots, shelfEntries, bytesAfter, events, past}
 use Rattle.demands.specs.Machine.{Machine, Within}
-use Rattle.demands.specs.Placement.{Places, places, Taking, placeOf, shelve, moves, placed, row, LooksRight}
+use Rattle.demands.specs.Placement.{Placing, Places, sit, placeOf, shelve, moves, placed, placesAfter, row, LooksRight}
 use Rattle.demands.specs.Reasons.{reason, reasons}
 use Rattle.demands.specs.RuleOfNext.{Peeks, stillToCome, RuleOfNext}
 use Rattle.rules.specs.Answers.{Answer}
@@ -28,13 +28,13 @@ pub record Sized (T R : ℕ) (p : Places) : Type 0 where
   pub table : length (p .table) ≡ T
   pub shelf : length (p .shelf) ≡ R
 
-module _ (take : Taking) (T R : ℕ) where
-  shelve-length : (h : History) (s : List (Option Version)) (o : Option Version) → length (shelve take h s o) ≡ length s
+module _ (P : Placing) (N T R : ℕ) where
+  shelve-length : (h : History) (s : List (Option Version)) (o : Option Version) → length (shelve P h s o) ≡ length s
   shelve-length h s none = refl
   shelve-length h s (some v) = go (awaited h v)
     where
-      go : (b : Bool) → length (cond b (set s (take s) (some v)) s) ≡ length s
-      go true = length-set s (take s) (some v)
+      go : (b : Bool) → length (cond b (set s (P .version s) (some v)) s) ≡ length s
+      go true = length-set s (P .version s) (some v)
       go false = refl
 
   on-done : (a : Answer) (x p : Places) → Sized T R x → Sized T R p → Sized T R (onDone a x p)
@@ -48,22 +48,33 @@ module _ (take : Taking) (T R : ℕ) where
   on-done (Answer.part bs) x p i j = j
   on-done (Answer.refused k) x p i j = j
 
-  moved-sized : (h g : History) (p : Places) → Sized T R p → (c : Call) (a : Answer) → Sized T R (moves take h g p c a)
+  moved-sized : (h g : History) (p : Places) → Sized T R p → (c : Call) (a : Answer) → Sized T R (moves P h g p c a)
   unfolding moves
   moved-sized h g p i (Call.opening n) a = i
-  moved-sized h g p i (Call.insert k b) a = on-done a _ p (record { table = length-set (p .table) (take (p .table)) _ ∙ i .table; shelf = i .shelf }) i
+  moved-sized h g p i (Call.insert k b) a = on-done a _ p (record { table = length-set (p .table) (P .version (p .table)) _ ∙ i .table; shelf = i .shelf }) i
   moved-sized h g p i (Call.modify k b) a = on-done a _ p (record { table = length-set (p .table) _ _ ∙ i .table; shelf = shelve-length h (p .shelf) (getD (p .table) (placeOf (p .table) k) none) ∙ i .shelf }) i
   moved-sized h g p i (Call.delete k) a = on-done a _ p (record { table = length-set (p .table) _ _ ∙ i .table; shelf = shelve-length h (p .shelf) (getD (p .table) (placeOf (p .table) k) none) ∙ i .shelf }) i
-  moved-sized h g p i Call.begin a = i
+  moved-sized h g p i Call.begin a = sat a
+    where
+      sat : (a : Answer) → Sized T R (sit P a p)
+      sat Answer.done = i
+      sat (Answer.begun t) = record { table = i .table; shelf = i .shelf }
+      sat (Answer.inHand l b) = i
+      sat (Answer.paused l) = i
+      sat (Answer.finished l b n) = i
+      sat (Answer.counted r e) = i
+      sat (Answer.owing c) = i
+      sat (Answer.part bs) = i
+      sat (Answer.refused k) = i
   moved-sized h g p i (Call.next t b o) a = record { table = i .table; shelf = length-keep (awaited g) (p .shelf) ∙ i .shelf }
   moved-sized h g p i (Call.peek t) a = i
   moved-sized h g p i Call.tally a = i
   moved-sized h g p i (Call.owed t) a = i
 
-  placed-sized : (es : List Event) → Sized T R (placed take T R es)
+  placed-sized : (es : List Event) → Sized T R (placed P N T R es)
   unfolding placed
   placed-sized [] = record { table = length-replicate T none; shelf = length-replicate R none }
-  placed-sized (e ∷ es) = moved-sized (tells es) (tells (e ∷ es)) (placed take T R es) (placed-sized es) (e .call) (e .answer)
+  placed-sized (e ∷ es) = moved-sized (tells es) (tells (e ∷ es)) (placed P N T R es) (placed-sized es) (e .call) (e .answer)
 
 -- ---- an answer that is right of a history and its places
 
@@ -134,12 +145,16 @@ module _ (N T R : ℕ) (h : History) (p : Places) (i : Sized T R p) where
 
 -- ---- every list of calls
 
-module _ (M : Machine) (d : Demand2 M) (r : RuleOfNext M) (o : Opening) (cs : List Call) (ws : All Within cs) where
-  is-right : (c : Call) → Within c → Right (o .n) (tableSlots o) (shelfEntries o) (past M o cs) (placed (r .take) (tableSlots o) (shelfEntries o) (events M o cs)) (placed-sized (r .take) (tableSlots o) (shelfEntries o) (events M o cs)) c (M (bytesAfter M o cs) c .answer) (M (bytesAfter M o cs) c .out)
+module _ (M : Machine) (P : Placing) (d : Demand2 M) (r : RuleOfNext M P) (o : Opening) (cs : List Call) (ws : All Within cs) where
+  -- where every list of calls leads, there are as many places
+  sized : Sized (tableSlots o) (shelfEntries o) (placesAfter M P o cs)
+  sized = placed-sized P (o .n) (tableSlots o) (shelfEntries o) (events M o cs)
+
+  is-right : (c : Call) → Within c → Right (o .n) (tableSlots o) (shelfEntries o) (past M o cs) (placesAfter M P o cs) sized c (M (bytesAfter M o cs) c .answer) (M (bytesAfter M o cs) c .out)
   is-right c w = record { answers = d .answers o cs ws c w; reading = reads c w }
     where
       reads : (c : Call) → Within c → reason (o .n) (tableSlots o) (shelfEntries o) (past M o cs) c ≡ none
-          → Reading (o .n) (tableSlots o) (shelfEntries o) (past M o cs) (placed (r .take) (tableSlots o) (shelfEntries o) (events M o cs)) (placed-sized (r .take) (tableSlots o) (shelfEntries o) (events M o cs)) c (M (bytesAfter M o cs) c .answer) (M (bytesAfter M o cs) c .out)
+          → Reading (o .n) (tableSlots o) (shelfEntries o) (past M o cs) (placesAfter M P o cs) sized c (M (bytesAfter M o cs) c .answer) (M (bytesAfter M o cs) c .out)
       reads (Call.opening n) w e = tt
       reads (Call.insert k b) w e = tt
       reads (Call.modify k b) w e = tt
@@ -150,7 +165,7 @@ module _ (M : Machine) (d : Demand2 M) (r : RuleOfNext M) (o : Opening) (cs : Li
       reads Call.tally w e = r .tallies o cs ws
       reads (Call.owed t) w e = λ s is. r .owes o cs ws t w e s is
 
-module _ (M K : Machine) (d : Demand2 M) (r : RuleOfNext M) (f : Demand2 K) (g : RuleOfNext K) (same : g .take ≡ r .take) (o : Opening) where
+module _ (M K : Machine) (P : Placing) (d : Demand2 M) (r : RuleOfNext M P) (f : Demand2 K) (g : RuleOfNext K P) (o : Opening) where
   abbrev T : ℕ
   T = tableSlots o
 
@@ -159,26 +174,26 @@ module _ (M K : Machine) (d : Demand2 M) (r : RuleOfNext M) (f : Demand2 K) (g :
 
   pub record OneHistory (cs : List Call) : Type 0 where
     pub tell : past K o cs ≡ past M o cs
-    pub places : placed (g .take) (tableSlots o) (shelfEntries o) (events K o cs) ≡ placed (r .take) (tableSlots o) (shelfEntries o) (events M o cs)
+    pub places : placesAfter K P o cs ≡ placesAfter M P o cs
 
   module _ (cs : List Call) (ws : All Within cs) (z : OneHistory cs) (c : Call) (w : Within c) where
-    there : Right (o .n) T R (past M o cs) (placed (r .take) T R (events M o cs)) (placed-sized (r .take) T R (events M o cs)) c (K (bytesAfter K o cs) c .answer) (K (bytesAfter K o cs) c .out)
-    there = move (past M o cs) (placed (r .take) T R (events M o cs)) (placed-sized (r .take) T R (events M o cs)) (z .tell) (z .places) (is-right K f g o cs ws c w)
+    there : Right (o .n) T R (past M o cs) (placesAfter M P o cs) (sized M P d r o cs ws) c (K (bytesAfter K o cs) c .answer) (K (bytesAfter K o cs) c .out)
+    there = move (past M o cs) (placesAfter M P o cs) (sized M P d r o cs ws) (z .tell) (z .places) (is-right K P f g o cs ws c w)
       where
-        move : (h : History) (p : Places) (i : Sized T R p) → past K o cs ≡ h → placed (g .take) T R (events K o cs) ≡ p
-            → Right (o .n) T R (past K o cs) (placed (g .take) T R (events K o cs)) (placed-sized (g .take) T R (events K o cs)) c (K (bytesAfter K o cs) c .answer) (K (bytesAfter K o cs) c .out)
+        move : (h : History) (p : Places) (i : Sized T R p) → past K o cs ≡ h → placesAfter K P o cs ≡ p
+            → Right (o .n) T R (past K o cs) (placesAfter K P o cs) (sized K P f g o cs ws) c (K (bytesAfter K o cs) c .answer) (K (bytesAfter K o cs) c .out)
             → Right (o .n) T R h p i c (K (bytesAfter K o cs) c .answer) (K (bytesAfter K o cs) c .out)
         move h p i eh ep x =
             resize (subst (λ (y : Places). (j : Sized T R y) → Right (o .n) T R h y j c (K (bytesAfter K o cs) c .answer) (K (bytesAfter K o cs) c .out)) ep
-            (subst (λ (y : History). (j : Sized T R (placed (g .take) T R (events K o cs))) → Right (o .n) T R y (placed (g .take) T R (events K o cs)) j c (K (bytesAfter K o cs) c .answer) (K (bytesAfter K o cs) c .out)) eh
+            (subst (λ (y : History). (j : Sized T R (placesAfter K P o cs)) → Right (o .n) T R y (placesAfter K P o cs) j c (K (bytesAfter K o cs) c .answer) (K (bytesAfter K o cs) c .out)) eh
             (λ j. record { answers = x .answers; reading = x .reading })))
           where
             resize : ((j : Sized T R p) → Right (o .n) T R h p j c (K (bytesAfter K o cs) c .answer) (K (bytesAfter K o cs) c .out)) → Right (o .n) T R h p i c (K (bytesAfter K o cs) c .answer) (K (bytesAfter K o cs) c .out)
             resize y = y i
 
-    one-step : (K (bytesAfter K o cs) c .answer ≡ M (bytesAfter M o cs) c .answer)
+    pub one-step : (K (bytesAfter K o cs) c .answer ≡ M (bytesAfter M o cs) c .answer)
         × (heard (past M o cs) c (K (bytesAfter K o cs) c .answer) (K (bytesAfter K o cs) c .out) ≡ heard (past M o cs) c (M (bytesAfter M o cs) c .answer) (M (bytesAfter M o cs) c .out))
-    one-step = same-step (o .n) T R (past M o cs) (placed (r .take) T R (events M o cs)) (placed-sized (r .take) T R (events M o cs)) c _ _ _ _ there (is-right M d r o cs ws c w)
+    one-step = same-step (o .n) T R (past M o cs) (placesAfter M P o cs) (sized M P d r o cs ws) c _ _ _ _ there (is-right M P d r o cs ws c w)
 
   pub one-history : (cs : List Call) → All Within cs → OneHistory cs
   unfolding events tells placed
@@ -190,7 +205,7 @@ module _ (M K : Machine) (d : Demand2 M) (r : RuleOfNext M) (f : Demand2 K) (g :
           let s = one-step cs (w .1) z c (w .0) in
           let e : heard (past K o cs) c (K (bytesAfter K o cs) c .answer) (K (bytesAfter K o cs) c .out) ≡ heard (past M o cs) c (M (bytesAfter M o cs) c .answer) (M (bytesAfter M o cs) c .out) =
           ap (λ (h : History). heard h c (K (bytesAfter K o cs) c .answer) (K (bytesAfter K o cs) c .out)) (z .tell) ∙ s .1 in
-          record { tell = e; places = λ i. moves (same i) (z .tell i) (e i) (z .places i) c (s .0 i) }
+          record { tell = e; places = λ i. moves P (z .tell i) (e i) (z .places i) c (s .0 i) }
 
   -- the answer to every further call
   pub same-answers : (cs : List Call) → All Within cs → (c : Call) → Within c → K (bytesAfter K o cs) c .answer ≡ M (bytesAfter M o cs) c .answer

@@ -1,5 +1,6 @@
 -- The calls of document 01, on lent bytes, meet everything that is demanded.
 use Rattle.demands.specs.Page.{Meets}
+use Rattle.demands.specs.Placement.{lowest}
 use Rattle.rules.specs.Refusals.{called}
 use Rattle.demands.proofs.DemandOne.{demand-1}
 use Rattle.demands.proofs.DemandThree.{demand-3}
@@ -9,6 +10,22 @@ use Rattle.demands.proofs.MasksMove.{masks-move}
 use Rattle.demands.proofs.NoSmaller.{ours-no-smaller}
 use Rattle.demands.proofs.Refused.{room-of-ours}
 use Rattle.demands.proofs.RuleOfNext.{rule-of-next}
+use Rattle.demands.proofs.Spelt.{spelt}
+use Rattle.demands.proofs.Steps.{lowest-takes}
+use Rattle.demands.proofs.TableOne.{table-one}
 
-pub ours : Meets called
-ours = record { one = demand-1; two = demand-2; three = demand-3; masks = masks-move; next = rule-of-next; finishing = ours-finish; room = room-of-ours; tight = ours-no-smaller }
+pub ours : Meets called lowest
+ours =
+    record {
+      one = demand-1;
+      two = demand-2;
+      three = demand-3;
+      empty = lowest-takes;
+      masks = masks-move;
+      tableOne = table-one;
+      next = rule-of-next;
+      spelt = spelt;
+      finishing = ours-finish;
+      room = room-of-ours;
+      tight = ours-no-smaller;
+    }

@@ -149,11 +149,11 @@ module _ {A : Type 0} where
   standing-map f (none ∷ l) = standing-map f l
   standing-map f (some x ∷ l) = ap (λ (m : List A). f x ∷ m) (standing-map f l)
 
-  pub getD-map : (f : A → A) (l : List (Option A)) (i : ℕ) → getD (map (Option·map f) l) i none ≡ Option·map f (getD l i none)
+  pub getD-map : {B : Type 0} (f : A → B) (l : List (Option A)) (i : ℕ) → getD (map (Option·map f) l) i none ≡ Option·map f (getD l i none)
   getD-map f [] i = refl
   getD-map f (o ∷ l) zero = refl
   getD-map f (o ∷ l) (suc i) = getD-map f l i
 
-  pub length-places : (f : A → A) (l : List (Option A)) → length (map (Option·map f) l) ≡ length l
+  pub length-places : {B : Type 0} (f : A → B) (l : List (Option A)) → length (map (Option·map f) l) ≡ length l
   length-places f [] = refl
   length-places f (o ∷ l) = ap suc (length-places f l)

@@ -12,7 +12,7 @@ use Rattle.demands.specs.History.{Version, Scan, History, needed, scanOf
 use Rattle.demands.specs.Lists.{All}
 use Rattle.demands.specs.Lives.{Opening, tableSlots, shelfEntries, bytesAfter, events, past}
 use Rattle.demands.specs.Machine.{Within}
-use Rattle.demands.specs.Placement.{placed, row, LooksRight}
+use Rattle.demands.specs.Placement.{lowest, placesAfter, row, LooksRight}
 use Rattle.demands.specs.Reasons.{reason, reasons}
 use Rattle.demands.specs.RuleOfNext.{Peeks, stillToCome, RuleOfNext}
 use Rattle.rules.specs.Answers.{Answer, number}
@@ -27,7 +27,6 @@ use Rattle.demands.proofs.Lives.{no-refusal, Living, all-live, call-liv
 use Rattle.demands.proofs.NextKeeps.{Answered, next-keeps}
 use Rattle.demands.proofs.Places.{At}
 use Rattle.demands.proofs.ReasonsAre.{scan-at, scan-of}
-use Rattle.demands.proofs.Steps.{lowest, lowest-takes}
 
 module _ (n t r : ℕ) (S : Store) (h : History) (gt gs : List (Option Version)) (sc : List (Option Scan)) (q : Inv n t r S h gt gs sc) (k : ℕ) (runs : noScan S k ≡ false) (s : Scan) (is : scanOf h k ≡ some s) where
   -- the scan of the ticket, at its position
@@ -62,7 +61,7 @@ module _ (n t r : ℕ) (S : Store) (h : History) (gt gs : List (Option Version))
           by-answer (Answer.refused x) g l e = absurd g
 
 module _ (o : Opening) (cs : List Call) (ws : All Within cs) where
-  v : Living (o .n) (tableSlots o) (shelfEntries o) (bytesAfter called o cs) (past called o cs) (placed lowest (tableSlots o) (shelfEntries o) (events called o cs))
+  v : Living (o .n) (tableSlots o) (shelfEntries o) (bytesAfter called o cs) (past called o cs) (placesAfter called lowest o cs)
   v = all-live o cs ws
 
   unrefused : (c : Call) → Within c → reason (o .n) (tableSlots o) (shelfEntries o) (past called o cs) c ≡ none → firstOf (refusals (bytesAfter called o cs) c) ≡ none
@@ -72,11 +71,11 @@ module _ (o : Opening) (cs : List Call) (ws : All Within cs) where
   effect-answer c w e = ap (λ (x : Reply). x .answer) (accepted-is (bytesAfter called o cs) c (unrefused c w e))
 
   looks-right : (k b : ℕ) (out : List ℕ) → Within (Call.next k b out) → reason (o .n) (tableSlots o) (shelfEntries o) (past called o cs) (Call.next k b out) ≡ none → (s : Scan) → scanOf (past called o cs) k ≡ some s
-      → LooksRight (row (placed lowest (tableSlots o) (shelfEntries o) (events called o cs))) s (called (bytesAfter called o cs) (Call.next k b out) .out) (called (bytesAfter called o cs) (Call.next k b out) .answer)
+      → LooksRight (row (placesAfter called lowest o cs)) s (called (bytesAfter called o cs) (Call.next k b out) .out) (called (bytesAfter called o cs) (Call.next k b out) .answer)
   looks-right k b out w e s is = call-lives (o .n) (tableSlots o) (shelfEntries o) _ _ _ v (Call.next k b out) w .stepped e .looked s is
 
   peeks-right : (k : ℕ) → Within (Call.peek k) → reason (o .n) (tableSlots o) (shelfEntries o) (past called o cs) (Call.peek k) ≡ none → (s : Scan) → scanOf (past called o cs) k ≡ some s
-      → (part : List ℕ) × (called (bytesAfter called o cs) (Call.peek k) .answer ≡ Answer.part part) × Peeks (row (placed lowest (tableSlots o) (shelfEntries o) (events called o cs))) s (tableSlots o + shelfEntries o) part
+      → (part : List ℕ) × (called (bytesAfter called o cs) (Call.peek k) .answer ≡ Answer.part part) × Peeks (row (placesAfter called lowest o cs)) s (tableSlots o + shelfEntries o) part
   unfolding effect ownRefusals
   peeks-right k w e s is =
       let a = accepted (bytesAfter called o cs) (Call.peek k) (unrefused (Call.peek k) w e) in
@@ -97,18 +96,11 @@ module _ (o : Opening) (cs : List Call) (ws : All Within cs) where
       ∙ ap Answer.owing (owed-is (o .n) (tableSlots o) (shelfEntries o) _ _ _ _ (v .seats) (v .keeps) (positionOf (read (bytesAfter called o cs)) k) s
       (here (o .n) (tableSlots o) (shelfEntries o) _ _ _ _ (v .seats) (v .keeps) k (a .others .0) s is))
 
-pub rule-of-next : RuleOfNext called
+pub rule-of-next : RuleOfNext called lowest
 rule-of-next =
     record {
-      take = lowest;
-      empty = lowest-takes;
       looks = λ o cs ws k b out w e s is. looks-right o cs ws k b out w e s is;
       peeks = λ o cs ws k w e s is. peeks-right o cs ws k w e s is;
       tallies = λ o cs ws. tallies-right o cs ws;
       owes = λ o cs ws k w e s is. owes-right o cs ws k w e s is;
     }
-
--- ours takes the lowest empty place
-pub takes-lowest : rule-of-next .take ≡ lowest
-unfolding rule-of-next
-takes-lowest = refl

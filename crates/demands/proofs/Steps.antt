@@ -8,12 +8,13 @@ use Prim.Native.Nat.{ℕ, suc, _+_, _≤_, _<_}
 use native.Mathlib.Omega.{arith}
 use lib.Dec.{eqb, ltb}
 use lib.ListN.{length, getD, set}
+use lib.Seq.{getD-set-other}
 use borrow.Author.Tests.{ltb-true, eqb-true, eqb-false, eq-eqb, ne-eqb, not-false}
 use Rattle.demands.specs.DemandTwo.{Going, Fulfils}
-use Rattle.demands.specs.History.{Version, version, Scan, scan, History, begins, awaited, modified, deleted, onNext, scanOf, heard, isLive}
+use Rattle.demands.specs.History.{Version, version, Scan, scan, History, begins, awaited, modified, deleted, onNext, runs, scanOf, heard, isLive}
 use Rattle.demands.specs.Lists.{keep}
 use Rattle.demands.specs.Machine.{Within}
-use Rattle.demands.specs.Placement.{Places, places, Taking, TakesEmpty, bears, placeOf, shelve, moves, LooksRight}
+use Rattle.demands.specs.Placement.{IfThereIsOne, TakesEmpty, isEmpty, lowestEmpty, lowest, Places, places, bears, placeOf, shelve, moves, LooksRight}
 use Rattle.rules.specs.Answers.{Answer}
 use Rattle.rules.specs.Calls.{first, slotIn, bearing, emptySlot, freePosition, positionOf, unawaited, changed, given}
 use Rattle.rules.specs.Masks.{bit, on}
@@ -27,38 +28,35 @@ use Rattle.demands.proofs.Firsts.{Untrue, first-passes, first-lowest}
 use Rattle.demands.proofs.Invariant.{NumberOK, Inv, n-64, table-numbers, shelf-numbers, gt-length, gs-length, unawaited-is, runs-at}
 use Rattle.demands.proofs.NextKeeps.{next-keeps}
 use Rattle.demands.proofs.Places.{At}
+use Rattle.demands.proofs.Positions.{tickets, begun-sits, next-sits}
 use Rattle.demands.proofs.ReasonsAre.{version-of, there-is, scan-at, scan-of}
 use Rattle.demands.proofs.SoundDesk.{CardSound}
 
 -- ---- the lowest empty place
 
-abbrev empty : Option Version → Bool
-empty none = true
-empty (some v) = false
-
-abbrev pub lowest : Taking
-lowest l = first (λ i. empty (getD l i none)) 0 (length l)
-
-empty-none : (o : Option Version) → empty o ≡ true → o ≡ none
+empty-none : {A : Type 0} (o : Option A) → isEmpty o ≡ true → o ≡ none
 empty-none none e = refl
 empty-none (some v) e = absurd (false≢true e)
 
+lowest-empty : {A : Type 0} → IfThereIsOne {A = A} lowestEmpty
+lowest-empty l j h e =
+    let f : lowestEmpty l ≤ j = first-lowest (λ i. isEmpty (getD l i none)) 0 (length l) j (omega arith) (omega arith) (ap isEmpty e) in
+    let b : lowestEmpty l < length l = omega arith in
+    (b, empty-none (getD l (lowestEmpty l) none) (first-passes (λ i. isEmpty (getD l i none)) 0 (length l) (omega arith)))
+
 pub lowest-takes : TakesEmpty lowest
-lowest-takes l j h e =
-    let f : lowest l ≤ j = first-lowest (λ i. empty (getD l i none)) 0 (length l) j (omega arith) (omega arith) (ap empty e) in
-    let b : lowest l < length l = omega arith in
-    (b, empty-none (getD l (lowest l) none) (first-passes (λ i. empty (getD l i none)) 0 (length l) (omega arith)))
+lowest-takes = record { version = lowest-empty; scan = lowest-empty }
 
 -- the slots' tests and the places' come to the same
 module _ (l : List Slot) (g : List (Option Version)) (len : length g ≡ length l) (ok : (i : ℕ) → NumberOK (slotIn l i) (getD g i none)) where
-  pub lowest-is : emptySlot l ≡ lowest g
-  lowest-is = ap (λ (f : ℕ → Bool). first f 0 (length l)) (λ j i. test i j) ∙ ap (λ (n : ℕ). first (λ i. empty (getD g i none)) 0 n) (sym len)
+  pub lowest-is : emptySlot l ≡ lowestEmpty g
+  lowest-is = ap (λ (f : ℕ → Bool). first f 0 (length l)) (λ j i. test i j) ∙ ap (λ (n : ℕ). first (λ i. isEmpty (getD g i none)) 0 n) (sym len)
     where
-      go : (s : Slot) (o : Option Version) → NumberOK s o → eqb (s .number) 0 ≡ empty o
+      go : (s : Slot) (o : Option Version) → NumberOK s o → eqb (s .number) 0 ≡ isEmpty o
       go s none w = eq-eqb _ _ w
       go s (some v) w = let z : 1 ≤ s .number = w .1 in ne-eqb (s .number) 0 (λ y. omega arith)
 
-      test : (i : ℕ) → eqb (slotIn l i .number) 0 ≡ empty (getD g i none)
+      test : (i : ℕ) → eqb (slotIn l i .number) 0 ≡ isEmpty (getD g i none)
       test i = go (slotIn l i) (getD g i none) (ok i)
 
   pub place-is : (k : ℕ) → 1 ≤ k → bearing l k ≡ placeOf g k
@@ -71,9 +69,9 @@ module _ (l : List Slot) (g : List (Option Version)) (len : length g ≡ length 
       test : (i : ℕ) → eqb (slotIn l i .number) k ≡ bears k (getD g i none)
       test i = go (slotIn l i) (getD g i none) (ok i)
 
-module _ (n t r : ℕ) (S : Store) (h : History) (gt gs : List (Option Version)) (sc : List (Option Scan)) (q : Inv n t r S h gt gs sc) where
+module _ (n t r : ℕ) (S : Store) (h : History) (gt gs : List (Option Version)) (sc : List (Option Scan)) (q : Inv n t r S h gt gs sc) (ps : List (Option ℕ)) (is-ps : ps ≡ tickets sc) where
   abbrev after : Call → Answer → List ℕ → Places
-  after c a out = moves lowest h (heard h c a out) (places gt gs) c a
+  after c a out = moves lowest h (heard h c a out) (places gt gs ps) c a
 
   -- what next looked at
   abbrev Looked : Call → Answer → List ℕ → Type 0
@@ -90,6 +88,10 @@ module _ (n t r : ℕ) (S : Store) (h : History) (gt gs : List (Option Version))
   pub record Stepped (c : Call) (a : Answer) (X : Store) (out : List ℕ) : Type 0 where
     pub seats : List (Option Scan)
     pub keeps : Inv n t r X (heard h c a out) (after c a out .table) (after c a out .shelf) seats
+    pub sits : after c a out .positions ≡ tickets seats
+    -- a call moves the scan of one position at most
+    pub mover : ℕ
+    pub others : (i : ℕ) → (i ≡ mover → ⊥) → getD seats i none ≡ getD sc i none
     pub fulfils : Fulfils t r h c a out
     pub looked : Looked c a out
 
@@ -116,7 +118,7 @@ module _ (n t r : ℕ) (S : Store) (h : History) (gt gs : List (Option Version))
     spot : bearing (S .table) k ≡ placeOf gt k
     spot = place-is (S .table) gt (gt-length n t r S h gt gs sc q) (table-numbers n t r S h gt gs sc q) k low
 
-    free : emptySlot (S .shelf) ≡ lowest gs
+    free : emptySlot (S .shelf) ≡ lowestEmpty gs
     free = lowest-is (S .shelf) gs (gs-length n t r S h gt gs sc q) (shelf-numbers n t r S h gt gs sc q)
 
     -- what is shelved
@@ -142,6 +144,9 @@ module _ (n t r : ℕ) (S : Store) (h : History) (gt gs : List (Option Version))
         keeps = subst (λ (y : List (Option Version)). Inv n t r (changed S (bearing (S .table) k) (some b)) (modified h k b) (set gt (placeOf gt k) (some (version k b (h .changes)))) y sc) (shelved k low is (u .1 .1 .1 .0))
             (subst (λ (y : List (Option Version)). Inv n t r (changed S (bearing (S .table) k) (some b)) (modified h k b) y (cond (awaited h (v .0)) (set gs (emptySlot (S .shelf)) (some (v .0))) gs) sc) (tabled k low is (u .1 .1 .1 .0) (some (version k b (h .changes))))
             (subst (λ (x : ℕ). Inv n t r (changed S (bearing (S .table) k) (some b)) (modified h x b) (set gt (bearing (S .table) k) (some (version x b (h .changes)))) (cond (awaited h (v .0)) (set gs (emptySlot (S .shelf)) (some (v .0))) gs) sc) e i));
+        sits = is-ps;
+        mover = 0;
+        others = λ i d. refl;
         fulfils = refl;
         looked = tt;
       }
@@ -159,6 +164,9 @@ module _ (n t r : ℕ) (S : Store) (h : History) (gt gs : List (Option Version))
         keeps = subst (λ (y : List (Option Version)). Inv n t r (changed S (bearing (S .table) k) none) (deleted h k) (set gt (placeOf gt k) none) y sc) (shelved k low is (u .1 .1 .0))
             (subst (λ (y : List (Option Version)). Inv n t r (changed S (bearing (S .table) k) none) (deleted h k) y (cond (awaited h (v .0)) (set gs (emptySlot (S .shelf)) (some (v .0))) gs) sc) (tabled k low is (u .1 .1 .0) none)
             (subst (λ (x : ℕ). Inv n t r (changed S (bearing (S .table) k) none) (deleted h x) (set gt (bearing (S .table) k) none) (cond (awaited h (v .0)) (set gs (emptySlot (S .shelf)) (some (v .0))) gs) sc) e i));
+        sits = is-ps;
+        mover = 0;
+        others = λ i d. refl;
         fulfils = refl;
         looked = tt;
       }
@@ -176,6 +184,9 @@ module _ (n t r : ℕ) (S : Store) (h : History) (gt gs : List (Option Version))
         seats = sc;
         keeps = subst (λ (x : ℕ). Inv n t r (Rattle.rules.specs.Calls.inserted S k b) (Rattle.demands.specs.History.inserted h k b) (set gt x (some (version k b (h .changes)))) gs sc)
             (lowest-is (S .table) gt (gt-length n t r S h gt gs sc q) (table-numbers n t r S h gt gs sc q)) i;
+        sits = is-ps;
+        mover = 0;
+        others = λ i d. refl;
         fulfils = refl;
         looked = tt;
       }
@@ -191,6 +202,9 @@ module _ (n t r : ℕ) (S : Store) (h : History) (gt gs : List (Option Version))
       record {
         seats = set sc (freePosition S) (some (scan (suc (h .given)) (h .live) [] 0));
         keeps = subst (λ (x : ℕ). Inv n t r (given S (freePosition S)) (begins h x) gt gs (set sc (freePosition S) (some (scan (suc (h .given)) (h .live) [] 0)))) (sym e) i;
+        sits = rw is-ps (begun-sits n t r S h gt gs sc q (S .desk .last + 1) (scan (suc (h .given)) (h .live) [] 0) e);
+        mover = freePosition S;
+        others = λ i d. getD-set-other sc (freePosition S) i (some (scan (suc (h .given)) (h .live) [] 0)) none d;
         fulfils = ap Answer.begun e;
         looked = tt;
       }
@@ -215,6 +229,9 @@ module _ (n t r : ℕ) (S : Store) (h : History) (gt gs : List (Option Version))
       record {
         seats = a .seats;
         keeps = subst (λ (x : ℕ). Inv n t r (W .after) (onNext (W .answer) h x (W .out)) gt (map (keep (awaited (onNext (W .answer) h x (W .out)))) gs) (a .seats)) (s .2) (a .keeps);
+        sits = ap (map (keep (runs (onNext (W .answer) h k (W .out))))) is-ps ∙ subst (λ (x : ℕ). map (keep (runs (onNext (W .answer) h x (W .out)))) (tickets sc) ≡ tickets (a .seats)) (s .2) (next-sits n t r S h gt gs sc q (positionOf S k) (s .0) (s .1) _ _ _ _ (a .seats) (a .keeps) (a .others) (a .own));
+        mover = positionOf S k;
+        others = a .others;
         fulfils = subst (λ (y : Option Scan). Going t r h y b (W .out) (W .answer)) (sym f) (a .right);
         looked = λ z e. subst (λ (y : Scan). LooksRight (gt ++ gs) y (W .out) (W .answer)) (Option·some-injective (s .0) z (sym f ∙ e)) (a .looks);
       }
@@ -229,6 +246,6 @@ module _ (n t r : ℕ) (S : Store) (h : History) (gt gs : List (Option Version))
   steps (Call.delete k) wi own u = delete-steps k u
   steps Call.begin wi own u = begin-steps u
   steps (Call.next k b o) wi own u = next-steps k b o u
-  steps (Call.peek k) wi own u = record { seats = sc; keeps = q; fulfils = unrefused S (Call.peek k); looked = tt }
-  steps Call.tally wi own u = record { seats = sc; keeps = q; fulfils = unrefused S Call.tally; looked = tt }
-  steps (Call.owed k) wi own u = record { seats = sc; keeps = q; fulfils = unrefused S (Call.owed k); looked = tt }
+  steps (Call.peek k) wi own u = record { seats = sc; keeps = q; sits = is-ps; mover = 0; others = λ i d. refl; fulfils = unrefused S (Call.peek k); looked = tt }
+  steps Call.tally wi own u = record { seats = sc; keeps = q; sits = is-ps; mover = 0; others = λ i d. refl; fulfils = unrefused S Call.tally; looked = tt }
+  steps (Call.owed k) wi own u = record { seats = sc; keeps = q; sits = is-ps; mover = 0; others = λ i d. refl; fulfils = unrefused S (Call.owed k); looked = tt }

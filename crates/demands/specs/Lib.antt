@@ -9,6 +9,8 @@ pub mod DemandThree
 pub mod Placement
 pub mod RuleOfNext
 pub mod Masks
+pub mod TableOne
+pub mod Spelt
 pub mod Finishing
 pub mod Page
 pub mod Idle

@@ -8,23 +8,19 @@ use Prim.Native.Nat.{ℕ, _+_, _%_, _<_}
 use lib.Bits.{bitXor}
 use lib.Dec.{ltb}
 use lib.ListN.{getD}
-use Rattle.demands.specs.DemandThree.{Holds}
-use Rattle.demands.specs.History.{Version, Scan, History, awaits, needed, scanOf}
+use Rattle.demands.specs.History.{Version, Scan, awaits}
 use Rattle.demands.specs.Lists.{All}
-use Rattle.demands.specs.Lives.{Opening, tableSlots, Accepted, bytesAfter, past}
+use Rattle.demands.specs.Lives.{Opening, tableSlots, Accepted, bytesAfter}
 use Rattle.demands.specs.Machine.{Machine, Within}
-use Rattle.rules.specs.Calls.{slotIn, cardOf}
+use Rattle.demands.specs.Placement.{Placing, placesAfter, standsAt}
+use Rattle.rules.specs.Calls.{slotIn}
 use Rattle.rules.specs.Masks.{Masks, bit}
-use Rattle.rules.specs.Memory.{Store, read}
+use Rattle.rules.specs.Memory.{read}
 use Rattle.rules.specs.Refusals.{Call}
 
 abbrev pub one : Bool → ℕ
 one true = 1
 one false = 0
-
--- the running scan whose ticket is on the card of position i
-abbrev pub scanAt : Store → History → ℕ → Option Scan
-scanAt S h i = scanOf h (cardOf S i .ticket .0)
 
 abbrev pub noneRuns : Option Scan → Bool
 noneRuns none = true
@@ -40,38 +36,50 @@ waitsFor none v = false
 waitsFor (some s) v = awaits s v
 
 module _ (M : Machine) (o : Opening) where
-  -- position i is in a table walk
-  abbrev pub walking : List Call → ℕ → Bool
-  walking cs i = walks (tableSlots o) (scanAt (read (bytesAfter M o cs)) (past M o cs) i)
-
-  -- the table walks that have ended at position i since the opening
-  unfoldable pub walksEnded : List Call → ℕ → ℕ
-  walksEnded [] i = 0
-  walksEnded (c ∷ cs) i = walksEnded cs i + one (walking cs i && not (walking (c ∷ cs) i))
-
-  abbrev pub stands : List Call → ℕ → Option Scan
-  stands cs i = scanAt (read (bytesAfter M o cs)) (past M o cs) i
-
+  -- the masks of the desk, of a slot and of an entry
   abbrev pub masksAfter : List Call → Masks
   masksAfter cs = read (bytesAfter M o cs) .desk .masks
 
-  -- after these calls
-  pub record MasksMean (cs : List Call) : Type 0 where
-    pub table : Holds (bytesAfter M o cs .table) (past M o cs .live)
-    pub shelf : Holds (bytesAfter M o cs .shelf) (needed (past M o cs))
-    -- active: no scan is at i
-    pub active : (i : ℕ) → i < 64 → bit (masksAfter cs .active) i ≡ one (noneRuns (stands cs i))
-    -- local active: no scan is in its table walk at i
-    pub local : (i : ℕ) → i < 64 → bit (masksAfter cs .local) i ≡ one (not (walking cs i))
-    -- stable: the parity of the table walks ended at i
-    pub stable : (i : ℕ) → i < 64 → bit (masksAfter cs .stable) i ≡ walksEnded cs i % 2
-    -- status: differs from stable where a scan in its table walk does not await the version
-    pub status : (j : ℕ) (v : Version) → getD (table .which) j none ≡ some v → (i : ℕ) → i < 64
-        → bit (bitXor (masksAfter cs .stable) (slotIn (read (bytesAfter M o cs) .table) j .mask)) i ≡ one (walking cs i && not (waitsFor (stands cs i) v))
-    -- remset status: 0 where a scan awaits the version
-    pub remset : (k : ℕ) (v : Version) → getD (shelf .which) k none ≡ some v → (i : ℕ) → i < 64
-        → bit (slotIn (read (bytesAfter M o cs) .shelf) k .mask) i ≡ one (not (waitsFor (stands cs i) v))
+  abbrev pub statusAfter : List Call → ℕ → ℕ
+  statusAfter cs j = slotIn (read (bytesAfter M o cs) .table) j .mask
+
+  abbrev pub remsetAfter : List Call → ℕ → ℕ
+  remsetAfter cs k = slotIn (read (bytesAfter M o cs) .shelf) k .mask
+
+  module _ (P : Placing) where
+    -- position i is in a table walk
+    abbrev pub walking : List Call → ℕ → Bool
+    walking cs i = walks (tableSlots o) (standsAt M P o cs i)
+
+    -- the scan at position i awaits the version
+    abbrev pub waits : List Call → ℕ → Version → Bool
+    waits cs i v = waitsFor (standsAt M P o cs i) v
+
+    -- the table walks that have ended at position i since the opening
+    unfoldable pub walksEnded : List Call → ℕ → ℕ
+    walksEnded [] i = 0
+    walksEnded (c ∷ cs) i = walksEnded cs i + one (walking cs i && not (walking (c ∷ cs) i))
+
+    -- the version in slot j, in entry k
+    abbrev pub inSlot : List Call → ℕ → Option Version
+    inSlot cs j = getD (placesAfter M P o cs .table) j none
+
+    abbrev pub inEntry : List Call → ℕ → Option Version
+    inEntry cs k = getD (placesAfter M P o cs .shelf) k none
+
+    -- after these calls
+    pub record MasksMean (cs : List Call) : Type 0 where
+      -- active: no scan is at i
+      pub active : (i : ℕ) → i < 64 → bit (masksAfter cs .active) i ≡ one (noneRuns (standsAt M P o cs i))
+      -- local active: no scan is in its table walk at i
+      pub local : (i : ℕ) → i < 64 → bit (masksAfter cs .local) i ≡ one (not (walking cs i))
+      -- stable: the parity of the table walks ended at i
+      pub stable : (i : ℕ) → i < 64 → bit (masksAfter cs .stable) i ≡ walksEnded cs i % 2
+      -- status: differs from stable where a scan in its table walk does not await the version
+      pub status : (j : ℕ) (v : Version) → inSlot cs j ≡ some v → (i : ℕ) → i < 64 → bit (bitXor (masksAfter cs .stable) (statusAfter cs j)) i ≡ one (walking cs i && not (waits cs i v))
+      -- remset status: 0 where a scan awaits the version
+      pub remset : (k : ℕ) (v : Version) → inEntry cs k ≡ some v → (i : ℕ) → i < 64 → bit (remsetAfter cs k) i ≡ one (not (waits cs i v))
 
 -- of every life
-unfoldable pub MasksMove : Machine → Type 0
-MasksMove M = (o : Opening) → Accepted M o → (cs : List Call) → All Within cs → MasksMean M o cs
+unfoldable pub MasksMove : Machine → Placing → Type 0
+MasksMove M P = (o : Opening) → Accepted M o → (cs : List Call) → All Within cs → MasksMean M o P cs

@@ -1,32 +1,55 @@
--- Where each version stands, and the rule of next: "looks at slots one at a time, table first, then shelf, until a record is in hand, the
--- budget of looks is spent, or the place is T + R". Which empty place a version takes is left open, as long as it is an empty one.
+-- Where versions and scans stand: the slot, the entry and the position that each takes, over any choice of "an empty place, if there is
+-- one". The demands do without it.
 use mathlib.Core.Path.{_≡_}
 use mathlib.Core.Bool.{Bool, true, false, cond}
 use mathlib.Core.Option.{Option, none, some}
 use mathlib.Core.List.{List, [], _∷_, _++_, map}
 use Prim.Native.Nat.{ℕ, suc, _+_, _<_}
 use lib.ListN.{length, getD, set, replicate}
-use Rattle.demands.specs.History.{Event, Version, version, Scan, History, reads, awaits, awaited, numbered, onDone, tells}
+use Rattle.demands.specs.History.{Event, Version, version, Scan, History, reads, awaits, awaited, numbered, runs, scanOf, onDone, tells}
 use Rattle.demands.specs.Lists.{keep}
+use Rattle.demands.specs.Lives.{Opening, tableSlots, shelfEntries, events, past}
+use Rattle.demands.specs.Machine.{Machine}
 use Rattle.rules.specs.Answers.{Answer}
 use Rattle.rules.specs.Calls.{first}
 use Rattle.rules.specs.Refusals.{Call}
 
--- the version in each slot and in each entry
+-- which place a newcomer takes, of a row of places as it stands
+abbrev pub Taking : Type 0 → Type 0
+Taking A = List (Option A) → ℕ
+
+-- the slot of a new version and the entry of a shelved one; the position of a new scan
+pub record Placing : Type 0 where
+  pub version : Taking Version
+  pub scan : Taking ℕ
+
+-- "an empty place, if there is one"
+abbrev pub IfThereIsOne : {A : Type 0} → Taking A → Type 0
+IfThereIsOne {A} take = (l : List (Option A)) (j : ℕ) → j < length l → getD l j none ≡ none → (take l < length l) × (getD l (take l) none ≡ none)
+
+pub record TakesEmpty (P : Placing) : Type 0 where
+  pub version : IfThereIsOne (P .version)
+  pub scan : IfThereIsOne (P .scan)
+
+-- document 01's: "the lowest empty slot", "the lowest empty shelf entry", "the lowest position below N with active bit 1"
+abbrev pub isEmpty : {A : Type 0} → Option A → Bool
+isEmpty none = true
+isEmpty (some a) = false
+
+abbrev pub lowestEmpty : {A : Type 0} → Taking A
+lowestEmpty l = first (λ i. isEmpty (getD l i none)) 0 (length l)
+
+abbrev pub lowest : Placing
+lowest = record { version = lowestEmpty; scan = lowestEmpty }
+
+-- the version in each slot and in each entry, and the ticket at each position
 pub record Places : Type 0 where
   pub table : List (Option Version)
   pub shelf : List (Option Version)
+  pub positions : List (Option ℕ)
 
-abbrev pub places : List (Option Version) → List (Option Version) → Places
-places t s = record { table = t; shelf = s }
-
--- which place a version takes, of a table or a shelf as it stands
-abbrev pub Taking : Type 0
-Taking = List (Option Version) → ℕ
-
--- "an empty place, if there is one"
-abbrev pub TakesEmpty : Taking → Type 0
-TakesEmpty take = (l : List (Option Version)) (j : ℕ) → j < length l → getD l j none ≡ none → (take l < length l) × (getD l (take l) none ≡ none)
+abbrev pub places : List (Option Version) → List (Option Version) → List (Option ℕ) → Places
+places t s q = record { table = t; shelf = s; positions = q }
 
 abbrev pub bears : ℕ → Option Version → Bool
 bears k none = false
@@ -35,33 +58,62 @@ bears k (some v) = numbered k v
 abbrev pub placeOf : List (Option Version) → ℕ → ℕ
 placeOf l k = first (λ i. bears k (getD l i none)) 0 (length l)
 
-module _ (take : Taking) where
+module _ (P : Placing) where
   -- a version that some scan awaits goes to the shelf as it leaves the table
   abbrev pub shelve : History → List (Option Version) → Option Version → List (Option Version)
   shelve h s none = s
-  shelve h s (some v) = cond (awaited h v) (set s (take s) (some v)) s
+  shelve h s (some v) = cond (awaited h v) (set s (P .version s) (some v)) s
 
   abbrev pub put : Places → Version → Places
-  put p v = places (set (p .table) (take (p .table)) (some v)) (p .shelf)
+  put p v = places (set (p .table) (P .version (p .table)) (some v)) (p .shelf) (p .positions)
 
   abbrev pub replace : History → Places → ℕ → Option Version → Places
-  replace h p k new = places (set (p .table) (placeOf (p .table) k) new) (shelve h (p .shelf) (getD (p .table) (placeOf (p .table) k) none))
+  replace h p k new = places (set (p .table) (placeOf (p .table) k) new) (shelve h (p .shelf) (getD (p .table) (placeOf (p .table) k) none)) (p .positions)
 
-  -- after a call; with next an entry that no scan awaits any more is freed
+  abbrev pub sit : Answer → Places → Places
+  sit Answer.done p = p
+  sit (Answer.begun t) p = places (p .table) (p .shelf) (set (p .positions) (P .scan (p .positions)) (some t))
+  sit (Answer.inHand l b) p = p
+  sit (Answer.paused l) p = p
+  sit (Answer.finished l b n) p = p
+  sit (Answer.counted r e) p = p
+  sit (Answer.owing c) p = p
+  sit (Answer.part bs) p = p
+  sit (Answer.refused k) p = p
+
+  -- after a call; with next an entry that no scan awaits any more is freed, and a position whose scan runs no more
   unfoldable pub moves : History → History → Places → Call → Answer → Places
   moves h g p (Call.opening n) a = p
   moves h g p (Call.insert k b) a = onDone a (put p (version k b (h .changes))) p
   moves h g p (Call.modify k b) a = onDone a (replace h p k (some (version k b (h .changes)))) p
   moves h g p (Call.delete k) a = onDone a (replace h p k none) p
-  moves h g p Call.begin a = p
-  moves h g p (Call.next t b o) a = places (p .table) (map (keep (awaited g)) (p .shelf))
+  moves h g p Call.begin a = sit a p
+  moves h g p (Call.next t b o) a = places (p .table) (map (keep (awaited g)) (p .shelf)) (map (keep (runs g)) (p .positions))
   moves h g p (Call.peek t) a = p
   moves h g p Call.tally a = p
   moves h g p (Call.owed t) a = p
 
-  unfoldable pub placed : ℕ → ℕ → List Event → Places
-  placed T R [] = places (replicate T none) (replicate R none)
-  placed T R (e ∷ es) = moves (tells es) (tells (e ∷ es)) (placed T R es) (e .call) (e .answer)
+  -- of N positions, T slots and R entries
+  unfoldable pub placed : ℕ → ℕ → ℕ → List Event → Places
+  placed N T R [] = places (replicate T none) (replicate R none) (replicate N none)
+  placed N T R (e ∷ es) = moves (tells es) (tells (e ∷ es)) (placed N T R es) (e .call) (e .answer)
+
+-- the running scan at a position
+abbrev pub scanWith : History → Option ℕ → Option Scan
+scanWith h none = none
+scanWith h (some t) = scanOf h t
+
+abbrev pub sitting : History → Places → ℕ → Option Scan
+sitting h p i = scanWith h (getD (p .positions) i none)
+
+-- where they stand after the opening and the calls
+abbrev pub placesAfter : Machine → Placing → Opening → List Call → Places
+placesAfter M P o cs = placed P (o .n) (tableSlots o) (shelfEntries o) (events M o cs)
+
+abbrev pub standsAt : Machine → Placing → Opening → List Call → ℕ → Option Scan
+standsAt M P o cs i = sitting (past M o cs) (placesAfter M P o cs) i
+
+-- ---- the looks of a scan, place by place
 
 -- "table first, then shelf"
 abbrev pub row : Places → List (Option Version)

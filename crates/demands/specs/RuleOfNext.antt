@@ -10,9 +10,9 @@ use lib.Dec.{ltb}
 use lib.ListN.{length}
 use Rattle.demands.specs.History.{Version, Scan, History, needed, waiting, scanOf}
 use Rattle.demands.specs.Lists.{All}
-use Rattle.demands.specs.Lives.{Opening, tableSlots, shelfEntries, bytesAfter, events, past}
+use Rattle.demands.specs.Lives.{Opening, tableSlots, shelfEntries, bytesAfter, past}
 use Rattle.demands.specs.Machine.{Machine, Within}
-use Rattle.demands.specs.Placement.{Taking, TakesEmpty, placed, row, Passes, Finds, LooksRight}
+use Rattle.demands.specs.Placement.{Placing, placesAfter, row, Passes, Finds, LooksRight}
 use Rattle.demands.specs.Reasons.{reason}
 use Rattle.rules.specs.Answers.{Answer}
 use Rattle.rules.specs.Refusals.{Call}
@@ -36,16 +36,14 @@ module _ (M : Machine) (o : Opening) (cs : List Call) where
   abbrev pub Granted : Call → Type 0
   Granted c = reason (o .n) (tableSlots o) (shelfEntries o) (past M o cs) c ≡ none
 
-  abbrev pub inOrder : Taking → List (Option Version)
-  inOrder take = row (placed take (tableSlots o) (shelfEntries o) (events M o cs))
+  abbrev pub inOrder : Placing → List (Option Version)
+  inOrder P = row (placesAfter M P o cs)
 
-pub record RuleOfNext (M : Machine) : Type 0 where
-  pub take : Taking
-  pub empty : TakesEmpty take
+pub record RuleOfNext (M : Machine) (P : Placing) : Type 0 where
   pub looks : (o : Opening) (cs : List Call) → All Within cs → (t b : ℕ) (out : List ℕ) → Within (Call.next t b out) → Granted M o cs (Call.next t b out)
-      → (s : Scan) → scanOf (past M o cs) t ≡ some s → LooksRight (inOrder M o cs take) s (handOut M o cs (Call.next t b out)) (answer M o cs (Call.next t b out))
+      → (s : Scan) → scanOf (past M o cs) t ≡ some s → LooksRight (inOrder M o cs P) s (handOut M o cs (Call.next t b out)) (answer M o cs (Call.next t b out))
   pub peeks : (o : Opening) (cs : List Call) → All Within cs → (t : ℕ) → Within (Call.peek t) → Granted M o cs (Call.peek t)
-      → (s : Scan) → scanOf (past M o cs) t ≡ some s → (part : List ℕ) × (answer M o cs (Call.peek t) ≡ Answer.part part) × Peeks (inOrder M o cs take) s (tableSlots o + shelfEntries o) part
+      → (s : Scan) → scanOf (past M o cs) t ≡ some s → (part : List ℕ) × (answer M o cs (Call.peek t) ≡ Answer.part part) × Peeks (inOrder M o cs P) s (tableSlots o + shelfEntries o) part
   pub tallies : (o : Opening) (cs : List Call) → All Within cs → answer M o cs Call.tally ≡ Answer.counted (length (past M o cs .live)) (length (needed (past M o cs)))
   pub owes : (o : Opening) (cs : List Call) → All Within cs → (t : ℕ) → Within (Call.owed t) → Granted M o cs (Call.owed t)
       → (s : Scan) → scanOf (past M o cs) t ≡ some s → answer M o cs (Call.owed t) ≡ Answer.owing (stillToCome (tableSlots o) (past M o cs) s)
