@@ -41,6 +41,8 @@ pub mod Caught
 pub mod ShelvesOnce
 pub mod NoSmaller
 pub mod BothAccepted
+pub mod HandsOut
+pub mod ShelvesFirstOnly
 pub mod FirstChangeOnly
 pub mod OldStore
 pub mod DemandOne
