@@ -1,4 +1,4 @@
--- Such a store: it shelves at the first change only, and meets neither demand 2 nor demand 3.
+-- The store of document 01 with that one fault is such a store, so it meets neither demand 2 nor demand 3.
 use mathlib.Core.Path.{_≡_, refl, sym, ap, subst}
 use mathlib.Core.Bool.{true}
 use mathlib.Core.Option.{Option, none, some}
@@ -62,6 +62,7 @@ once-some : (n : ℕ) (x y : Told) → 1 ≤ n → atFirst n x y ≡ y
 once-some zero x y h = absurd (omega arith)
 once-some (suc n) x y h = refl
 
+-- the number and the body of such a change
 record Unshelved (S : Store) (c : Call) : Type 0 where
   number : ℕ
   body : Option (List ℕ)
@@ -78,6 +79,7 @@ unfolding looksAtDesk
 looks (Call.modify k b) q = refl
 looks (Call.delete k) q = refl
 
+-- what such a change leaves
 record Left (l m : Lent) : Type 0 where
   shelf : m .shelf ≡ l .shelf
   bytes : LentBytes m

@@ -41,6 +41,7 @@ pub mod Caught
 pub mod ShelvesOnce
 pub mod NoSmaller
 pub mod BothAccepted
+pub mod BothHanded
 pub mod HandsOut
 pub mod ShelvesFirstOnly
 pub mod FirstChangeOnly

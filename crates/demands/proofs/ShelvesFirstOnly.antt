@@ -1,34 +1,29 @@
 -- A store that shelves a version at the first change only, and is document 01's in all else, meets neither demand 2 nor demand 3.
 use mathlib.Core.Path.{_≡_, refl, sym, ap, _∙_, subst}
 use mathlib.Core.Option.{Option, none, some}
-use mathlib.Core.List.{List, [], _∷_, map, List·Memᴰ·eq-of-singleton}
-use Prim.Native.Nat.{ℕ, zero, suc, _+_, _/_, _≤_, _<_}
+use mathlib.Core.List.{List, [], _∷_}
+use Prim.Native.Nat.{ℕ, zero, suc, _/_, _≤_, _<_}
 use native.Mathlib.Omega.{arith}
 use lib.ListN.{length, getD, List·getD-eq-default}
 use Rattle.demands.specs.DemandThree.{Demand3}
-use Rattle.demands.specs.DemandTwo.{Goes, Fulfils, Answers, Demand2}
-use Rattle.demands.specs.History.{Version, version, scan, History, history, reads, heard, tells}
+use Rattle.demands.specs.DemandTwo.{Demand2}
 use Rattle.demands.specs.Idle.{buffer, Later, ShelvesFirstOnly}
 use Rattle.demands.specs.Lists.{All}
-use Rattle.demands.specs.Lives.{bytesAfter, events, past}
+use Rattle.demands.specs.Lives.{bytesAfter}
 use Rattle.demands.specs.Machine.{Machine, Within, LentBytes}
-use Rattle.demands.specs.Reasons.{reasons, reason}
-use Rattle.rules.specs.Answers.{Answer}
 use Rattle.rules.specs.Bytes.{le, toLe, field, u32At, u64At}
 use Rattle.rules.specs.Calls.{first as lowestThat, slotIn, used, opened, inserted, changedBy, given, count}
 use Rattle.rules.specs.Masks.{bit, NOT, from, scanMask, REMSET-MASK-INS, REMSET-MASK-UPD, LCL-ACTIVE-MASK-UPD, ACTIVE-MASK-UPD, STATUS-MASK-UPD, cleared, begun, newStatus, mOf}
-use Rattle.rules.specs.Memory.{Lent, Slot, slot, free, each, slotsOf, deskOf, read, joined, deskBytes, written, version as reading}
+use Rattle.rules.specs.Memory.{Lent, Slot, slot, free, each, slotsOf, deskOf, read, joined, deskBytes, written, version}
 use Rattle.rules.specs.Refusals.{Call, Reply, lengthsRight, ownRight, firstOf, ownRefusals, looksAtDesk, refusals, effect, refusedAs, outOf, replied, called}
 use Rattle.rules.specs.Sound.{holds, allZero, headRules, cardRules, cardsRules, deskRules, sound}
 use Rattle.rules.proofs.RoundTrip.{written-read}
-use Rattle.demands.proofs.BothAccepted.{both-accepted}
+use Rattle.demands.proofs.BothHanded.{ask, ask-within, second-handed, third-handed}
 use Rattle.demands.proofs.Caught.{small, bodyOf}
 use Rattle.demands.proofs.DemandOne.{accepted, demand-1}
 use Rattle.demands.proofs.HandsOut.{out-stands}
-use Rattle.demands.proofs.Lists.{perm-length}
 use Rattle.demands.proofs.Lives.{well, all-live}
 use Rattle.demands.proofs.ShelvesOnce.{pair, first, second, first-within, second-within, AcceptsBoth, two-in-use}
-use Rattle.demands.proofs.Sizes.{zero-bytes}
 use Rattle.demands.proofs.Spelling.{to-right, count-read}
 
 -- ---- a table of one slot, and a shelf that holds the first version only
@@ -37,39 +32,42 @@ use Rattle.demands.proofs.Spelling.{to-right, count-read}
 abbrev day : List ℕ → ℕ
 day u = getD u 4 0
 
+-- its mask has one 0 bit, the first scan's
 abbrev shelved : List Slot
 shelved = slot 1 (bodyOf 1) 18446744073709551614 ∷ free ∷ []
 
 -- the slot's version begins with x
 abbrev Slotted : Lent → ℕ → Type 0
-Slotted l x = day (reading (slotIn (slotsOf (l .table)) 0)) ≡ x
+Slotted l x = day (version (slotIn (slotsOf (l .table)) 0)) ≡ x
 
 -- any version but the first that is handed out stands in the slot
 in-slot : (l : Lent) (t x : ℕ) → length (slotsOf (l .table)) ≡ 1 → slotsOf (l .shelf) ≡ shelved → 2 ≤ x → day (called l (Call.next t 3 buffer) .out) ≡ x → Slotted l x
 unfolding read toLe bodyOf buffer
-in-slot l t x one e h = out-stands (λ u. day u ≡ x → Slotted l x) l t 3 buffer (record { table = table; shelf = λ i. subst (λ (s : List Slot). day (reading (slotIn s i)) ≡ x → Slotted l x) (sym e) (entry i) }) (other 0 (omega arith))
+in-slot l t x one e h = out-stands (λ u. day u ≡ x → Slotted l x) l t 3 buffer (record { table = table; shelf = λ i. subst (λ (s : List Slot). day (version (slotIn s i)) ≡ x → Slotted l x) (sym e) (entry i) }) (other 0 (omega arith))
   where
     other : (y : ℕ) → y ≤ 1 → y ≡ x → Slotted l x
     other y q z = absurd (omega arith)
 
-    table : (i : ℕ) → day (reading (slotIn (slotsOf (l .table)) i)) ≡ x → Slotted l x
+    table : (i : ℕ) → day (version (slotIn (slotsOf (l .table)) i)) ≡ x → Slotted l x
     table zero = λ q. q
     table (suc i) = rw (List·getD-eq-default (slotsOf (l .table)) free {n = suc i} (omega arith)) (other 0 (omega arith))
 
-    entry : (i : ℕ) → day (reading (slotIn shelved i)) ≡ x → Slotted l x
+    entry : (i : ℕ) → day (version (slotIn shelved i)) ≡ x → Slotted l x
     entry zero = other 1 (omega arith)
     entry (suc zero) = other 0 (omega arith)
     entry (suc (suc i)) = other 0 (omega arith)
 
--- ---- document 01's store after the calls before the second change
+-- ---- document 01's store before the first change and before the second
 
-unused : used (slotsOf (bytesAfter called pair (Call.begin ∷ Call.insert 1 (bodyOf 1) ∷ []) .shelf)) ≡ 0
-unfolding bytesAfter pair small bodyOf holds allZero headRules cardRules cardsRules deskRules sound looksAtDesk refusals replied called le toLe field u32At u64At lowestThat opened inserted changedBy given count bit NOT from scanMask REMSET-MASK-INS REMSET-MASK-UPD LCL-ACTIVE-MASK-UPD ACTIVE-MASK-UPD STATUS-MASK-UPD cleared begun newStatus mOf each deskOf read joined deskBytes written lengthsRight ownRight firstOf ownRefusals effect refusedAs outOf
-unused = refl
+abbrev l₂ : Lent
+l₂ = bytesAfter called pair (Call.begin ∷ Call.insert 1 (bodyOf 1) ∷ [])
 
-before : (slotsOf (bytesAfter called pair (Call.begin ∷ first) .shelf) ≡ shelved) × (length (bytesAfter called pair (Call.begin ∷ first) .table) ≡ 64)
+abbrev l₄ : Lent
+l₄ = bytesAfter called pair (Call.begin ∷ first)
+
+before : (used (slotsOf (l₂ .shelf)) ≡ 0) × (slotsOf (l₄ .shelf) ≡ shelved) × (length (l₄ .table) ≡ 64)
 unfolding bytesAfter pair small bodyOf holds allZero headRules cardRules cardsRules deskRules sound looksAtDesk refusals replied called le toLe field u32At u64At lowestThat opened inserted changedBy given count bit NOT from scanMask REMSET-MASK-INS REMSET-MASK-UPD LCL-ACTIVE-MASK-UPD ACTIVE-MASK-UPD STATUS-MASK-UPD cleared begun newStatus mOf each deskOf read joined deskBytes written lengthsRight ownRight firstOf ownRefusals effect refusedAs outOf
-before = (refl, refl)
+before = (refl, refl, refl)
 
 -- ---- begin leaves table and shelf
 
@@ -81,81 +79,14 @@ begin-leaves l a = go (firstOf (refusals l Call.begin)) refl
     go none e = let b = written-read l (to-right l a (accepted l Call.begin e .lengths)) in (ap (λ (m : Lent). m .table) b, ap (λ (m : Lent). m .shelf) b)
     go (some k) e = (refl, refl)
 
--- ---- the calls tell that the second scan began with the second version, a third with the third
-
-abbrev v₁ : Version
-v₁ = version 1 (bodyOf 1) 0
-
-abbrev v₂ : Version
-v₂ = version 1 (bodyOf 2) 1
-
-abbrev v₃ : Version
-v₃ = version 1 (bodyOf 3) 2
-
-abbrev five : History
-five = history 3 (v₃ ∷ []) (v₂ ∷ v₁ ∷ []) 2 (scan 2 (v₂ ∷ []) [] 0 ∷ scan 1 (v₁ ∷ []) [] 0 ∷ [])
-
-abbrev six : History
-six = history 3 (v₃ ∷ []) (v₂ ∷ v₁ ∷ []) 3 (scan 3 (v₃ ∷ []) [] 0 ∷ scan 2 (v₂ ∷ []) [] 0 ∷ scan 1 (v₁ ∷ []) [] 0 ∷ [])
-
--- with as many looks as places, a scan that began with one version is handed it, or the demand is not met
-handed-it : (t : ℕ) (v : Version) (u : List ℕ) (a : Answer) → Goes 1 2 (scan t (v ∷ []) [] 0) 3 u a → u ≡ reads v
-handed-it t v u Answer.done g = absurd g
-handed-it t v u (Answer.begun x) g = absurd g
-handed-it t v u (Answer.inHand x y) g = g .0 .3 ∙ ap reads (List·Memᴰ·eq-of-singleton (g .0 .1))
-handed-it t v u (Answer.paused x) g = let a : x ≡ 3 = g .0 in let b : 0 + x < 1 + 2 = g .1 in absurd (omega arith)
-handed-it t v u (Answer.finished x y z) g = let e : _≡_ {A = ℕ} 0 1 = perm-length [] (map reads (v ∷ [])) (g .0) in absurd (omega arith)
-handed-it t v u (Answer.counted x y) g = absurd g
-handed-it t v u (Answer.owing x) g = absurd g
-handed-it t v u (Answer.part x) g = absurd g
-handed-it t v u (Answer.refused x) g = absurd g
-
-abbrev ask : ℕ → Call
-ask t = Call.next t 3 buffer
-
-ask-within : (t : ℕ) → t < 4294967296 → Within (ask t)
-unfolding buffer
-ask-within t h = (h, omega arith, zero-bytes 56)
-
-module _ (M : Machine) (d : Demand2 M) where
-  answered : (cs : List Call) → All Within cs → (h : History) → past M pair cs ≡ h → (c : Call) → Within c → Answers 1 2 h (reason 3 1 2 h c) c (M (bytesAfter M pair cs) c .answer) (M (bytesAfter M pair cs) c .out)
-  unfolding pair small
-  answered cs ws h e c w = subst (λ (y : History). Answers 1 2 y (reason 3 1 2 y c) c (M (bytesAfter M pair cs) c .answer) (M (bytesAfter M pair cs) c .out)) e (d .answers pair cs ws c w)
-
-  five-told : past M pair second ≡ five
-  unfolding bytesAfter events tells heard
-  five-told = go (both-accepted M d)
-    where
-      go : AcceptsBoth M → past M pair second ≡ five
-      go a = rw (a .inserted, a .begun, a .modified, a .again, a .last)
-
-  third-begun : M (bytesAfter M pair second) Call.begin .answer ≡ Answer.begun 3
-  unfolding reasons firstOf Fulfils
-  third-begun = answered second second-within five five-told Call.begin tt
-
-  six-told : past M pair (Call.begin ∷ second) ≡ six
-  unfolding events tells heard
-  six-told i = heard (five-told i) Call.begin (third-begun i) (M (bytesAfter M pair second) Call.begin .out)
-
-  second-handed : day (M (bytesAfter M pair second) (ask 2) .out) ≡ 2
-  unfolding reasons firstOf Fulfils toLe bodyOf buffer
-  second-handed = ap day (handed-it 2 v₂ _ (M (bytesAfter M pair second) (ask 2) .answer) (answered second second-within five five-told (ask 2) (ask-within 2 (omega arith))))
-
-  third-handed : day (M (bytesAfter M pair (Call.begin ∷ second)) (ask 3) .out) ≡ 3
-  unfolding reasons firstOf Fulfils toLe bodyOf buffer
-  third-handed = ap day (handed-it 3 v₃ _ (M (bytesAfter M pair (Call.begin ∷ second)) (ask 3) .answer) (answered (Call.begin ∷ second) (tt, second-within) six six-told (ask 3) (ask-within 3 (omega arith))))
-
 -- ---- up to the second change the bytes are document 01's
-
-abbrev l₄ : Lent
-l₄ = bytesAfter called pair (Call.begin ∷ first)
 
 abbrev c₅ : Call
 c₅ = Call.modify 1 (bodyOf 3)
 
 used-one : used (slotsOf (l₄ .shelf)) ≡ 1
 unfolding count
-used-one = rw (before .0) refl
+used-one = rw (before .1)
 
 bytes-before : LentBytes l₄
 bytes-before = all-live pair (Call.begin ∷ first) (second-within .1) .bytes
@@ -175,7 +106,7 @@ module _ (M : Machine) (f : ShelvesFirstOnly M) where
   bytes₄ : bytesAfter M pair (Call.begin ∷ first) ≡ l₄
   bytes₄ =
       more first Call.begin (tt, first-within) (λ q. q .0)
-      (more (Call.begin ∷ Call.insert 1 (bodyOf 1) ∷ []) (Call.modify 1 (bodyOf 2)) first-within (λ q. omega (arith, q .1, unused))
+      (more (Call.begin ∷ Call.insert 1 (bodyOf 1) ∷ []) (Call.modify 1 (bodyOf 2)) first-within (λ q. omega (arith, q .1, before .0))
       (more (Call.insert 1 (bodyOf 1) ∷ []) Call.begin (first-within .1) (λ q. q .0) (more [] (Call.insert 1 (bodyOf 1)) (first-within .1 .1) (λ q. q .0) bytes₀)))
 
   -- ---- the second change leaves the shelf
@@ -201,10 +132,10 @@ module _ (M : Machine) (f : ShelvesFirstOnly M) where
   are-bytes = f .bytes l₄ c₅ bytes-before (second-within .0) later
 
   one-slot : length (slotsOf (l₅ .table)) ≡ 1
-  one-slot = count-read (l₅ .table) ∙ ap (λ (n : ℕ). n / 64) (f .lengths l₄ c₅ bytes-before (second-within .0) later .table ∙ before .1)
+  one-slot = count-read (l₅ .table) ∙ ap (λ (n : ℕ). n / 64) (f .lengths l₄ c₅ bytes-before (second-within .0) later .table ∙ before .2)
 
   one-shelved : slotsOf (l₅ .shelf) ≡ shelved
-  one-shelved = ap slotsOf shelf₅ ∙ before .0
+  one-shelved = ap slotsOf shelf₅ ∙ before .1
 
   abbrev l₆ : Lent
   l₆ = called l₅ Call.begin .after
@@ -217,9 +148,10 @@ module _ (M : Machine) (f : ShelvesFirstOnly M) where
   asked m l t x h a e q = sym (ap (λ (r : Reply). day (r .out)) (ap (λ (y : Lent). M y (ask t)) e ∙ f .otherwise l (ask t) a (ask-within t h) (λ z. z .0))) ∙ q
 
   pub shelves-first-only-caught : Demand2 M → ⊥
+  unfolding toLe bodyOf
   shelves-first-only-caught d =
       let b = begin-leaves l₅ are-bytes in
-      let x : Slotted l₅ 2 = in-slot l₅ 2 2 one-slot one-shelved (omega arith) (asked (bytesAfter M pair second) l₅ 2 2 (omega arith) are-bytes bytes₅ (second-handed M d)) in
-      let y : Slotted l₆ 3 = in-slot l₆ 3 3 (ap (λ (t : List ℕ). length (slotsOf t)) (b .0) ∙ one-slot) (ap slotsOf (b .1) ∙ one-shelved) (omega arith) (asked (bytesAfter M pair (Call.begin ∷ second)) l₆ 3 3 (omega arith) (demand-1 .bytes l₅ Call.begin are-bytes tt) bytes₆ (third-handed M d)) in
-      let z : Slotted l₅ 3 = subst (λ (t : List ℕ). day (reading (slotIn (slotsOf t) 0)) ≡ 3) (b .0) y in
+      let x : Slotted l₅ 2 = in-slot l₅ 2 2 one-slot one-shelved (omega arith) (asked (bytesAfter M pair second) l₅ 2 2 (omega arith) are-bytes bytes₅ (ap day (second-handed M d))) in
+      let y : Slotted l₆ 3 = in-slot l₆ 3 3 (ap (λ (t : List ℕ). length (slotsOf t)) (b .0) ∙ one-slot) (ap slotsOf (b .1) ∙ one-shelved) (omega arith) (asked (bytesAfter M pair (Call.begin ∷ second)) l₆ 3 3 (omega arith) (demand-1 .bytes l₅ Call.begin are-bytes tt) bytes₆ (ap day (third-handed M d))) in
+      let z : Slotted l₅ 3 = subst (λ (t : List ℕ). day (version (slotIn (slotsOf t) 0)) ≡ 3) (b .0) y in
       omega arith

@@ -66,8 +66,8 @@ Changes (Call.owed t) = ⊥
 abbrev pub Later : Lent → Call → Type 0
 Later l c = Changes c × (1 ≤ used (slotsOf (l .shelf)))
 
--- the same of a whole store: every other call is document 01's, and such a change leaves the shelf, whatever it answers and whatever
--- bytes it puts on desk and table
+-- the same, and in all else document 01's: such a change leaves the shelf, whatever it answers and whatever bytes it puts on desk and
+-- table
 pub record ShelvesFirstOnly (M : Machine) : Type 0 where
   pub otherwise : (l : Lent) (c : Call) → LentBytes l → Well c → (Later l c → ⊥) → M l c ≡ called l c
   pub leaves : (l : Lent) (c : Call) → LentBytes l → Well c → Later l c → M l c .after .shelf ≡ l .shelf
