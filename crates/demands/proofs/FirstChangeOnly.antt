@@ -15,10 +15,10 @@ use Rattle.demands.specs.Lives.{bytesAfter}
 use Rattle.demands.specs.Machine.{Well, LentBytes}
 use Rattle.rules.specs.Bytes.{le, toLe, field, u32At, u64At}
 use Rattle.rules.specs.Calls.{first, used, bearing, opened, inserted, changedBy, given, count}
-use Rattle.rules.specs.Masks.{bit, NOT, from, scanMask, REMSET-MASK-INS, REMSET-MASK-UPD, LCL-ACTIVE-MASK-UPD, ACTIVE-MASK-UPD, STATUS-MASK-UPD, cleared, begun, newStatus, mOf}
+use Rattle.rules.specs.Masks.{bit, NOT, from, scanMask, REMSET-MASK-INS, STATUS-MASK-UPD, cleared, begun, newStatus, mOf}
 use Rattle.rules.specs.Memory.{Lent, Store, each, deskOf, read, joined, deskBytes, written}
 use Rattle.rules.specs.Next.{Told}
-use Rattle.rules.specs.Refusals.{Call, lengthsRight, ownRight, firstOf, ownRefusals, looksAtDesk, refusals, effect, refusedAs, outOf, writtenAll, replied, called}
+use Rattle.rules.specs.Refusals.{Call, lengthsRight, ownRight, firstOf, ownRefusals, looksAtDesk, refusals, effect, writtenAll, replied, called}
 use Rattle.rules.specs.Sound.{holds, allZero, headRules, cardRules, cardsRules, deskRules, sound}
 use Rattle.rules.proofs.RoundTrip.{written-read}
 use Rattle.demands.proofs.Caught.{small, bodyOf}
@@ -118,7 +118,7 @@ pub first-change-only-fails-2 : Demand2 firstChangeOnly → ⊥
 first-change-only-fails-2 = shelves-first-only-caught firstChangeOnly first-change-only-is
 
 accepts : AcceptsBoth firstChangeOnly
-unfolding bytesAfter pair small bodyOf faulty faultyReply firstChangeOnly holds allZero headRules cardRules cardsRules deskRules sound looksAtDesk refusals replied le toLe field u32At u64At first opened inserted changedBy given count bit NOT from scanMask REMSET-MASK-INS REMSET-MASK-UPD LCL-ACTIVE-MASK-UPD ACTIVE-MASK-UPD STATUS-MASK-UPD cleared begun newStatus mOf each deskOf read joined deskBytes written lengthsRight ownRight firstOf ownRefusals effect refusedAs outOf
+unfolding bytesAfter pair small bodyOf faulty faultyReply firstChangeOnly holds allZero headRules cardRules cardsRules deskRules sound looksAtDesk refusals le toLe field u32At u64At first opened inserted changedBy given count bit NOT from scanMask REMSET-MASK-INS STATUS-MASK-UPD cleared begun newStatus mOf each deskOf read joined deskBytes written lengthsRight ownRight firstOf ownRefusals effect
 accepts = record { opened = refl; inserted = refl; begun = refl; modified = refl; again = refl; last = refl }
 
 pub first-change-only-fails-3 : Demand3 firstChangeOnly → ⊥

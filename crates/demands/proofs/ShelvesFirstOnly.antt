@@ -13,9 +13,9 @@ use Rattle.demands.specs.Lives.{bytesAfter}
 use Rattle.demands.specs.Machine.{Machine, Within, LentBytes}
 use Rattle.rules.specs.Bytes.{le, toLe, field, u32At, u64At}
 use Rattle.rules.specs.Calls.{first as lowestThat, slotIn, used, opened, inserted, changedBy, given, count}
-use Rattle.rules.specs.Masks.{bit, NOT, from, scanMask, REMSET-MASK-INS, REMSET-MASK-UPD, LCL-ACTIVE-MASK-UPD, ACTIVE-MASK-UPD, STATUS-MASK-UPD, cleared, begun, newStatus, mOf}
+use Rattle.rules.specs.Masks.{bit, NOT, from, scanMask, REMSET-MASK-INS, STATUS-MASK-UPD, cleared, begun, newStatus, mOf}
 use Rattle.rules.specs.Memory.{Lent, Slot, slot, free, each, slotsOf, deskOf, read, joined, deskBytes, written, version}
-use Rattle.rules.specs.Refusals.{Call, Reply, lengthsRight, ownRight, firstOf, ownRefusals, looksAtDesk, refusals, effect, refusedAs, outOf, replied, called}
+use Rattle.rules.specs.Refusals.{Call, Reply, lengthsRight, ownRight, firstOf, ownRefusals, looksAtDesk, refusals, effect, replied, called}
 use Rattle.rules.specs.Sound.{holds, allZero, headRules, cardRules, cardsRules, deskRules, sound}
 use Rattle.rules.proofs.RoundTrip.{written-read}
 use Rattle.demands.proofs.BothHanded.{ask, ask-within, second-handed, third-handed}
@@ -66,7 +66,7 @@ abbrev l₄ : Lent
 l₄ = bytesAfter called pair (Call.begin ∷ first)
 
 before : (used (slotsOf (l₂ .shelf)) ≡ 0) × (slotsOf (l₄ .shelf) ≡ shelved) × (length (l₄ .table) ≡ 64)
-unfolding bytesAfter pair small bodyOf holds allZero headRules cardRules cardsRules deskRules sound looksAtDesk refusals replied called le toLe field u32At u64At lowestThat opened inserted changedBy given count bit NOT from scanMask REMSET-MASK-INS REMSET-MASK-UPD LCL-ACTIVE-MASK-UPD ACTIVE-MASK-UPD STATUS-MASK-UPD cleared begun newStatus mOf each deskOf read joined deskBytes written lengthsRight ownRight firstOf ownRefusals effect refusedAs outOf
+unfolding bytesAfter pair small bodyOf holds allZero headRules cardRules cardsRules deskRules sound looksAtDesk refusals replied called le toLe field u32At u64At lowestThat opened inserted changedBy given count bit NOT from scanMask REMSET-MASK-INS STATUS-MASK-UPD cleared begun newStatus mOf each deskOf read joined deskBytes written lengthsRight ownRight firstOf ownRefusals effect
 before = (refl, refl, refl)
 
 -- ---- begin leaves table and shelf
