@@ -1,9 +1,9 @@
 -- Any machine with demand 2 accepts a record's insert, a scan, a change, another scan and another change.
-use mathlib.Core.Path.{_≡_, refl, _∙_, subst}
+use mathlib.Core.Path.{_≡_, subst}
 use mathlib.Core.List.{List, [], _∷_}
 use Prim.Native.Nat.{ℕ}
 use Rattle.demands.specs.DemandTwo.{Fulfils, Answers, Demand2}
-use Rattle.demands.specs.History.{History, awaits, awaited, needed, heard, tells}
+use Rattle.demands.specs.History.{History, awaits, awaited, heard, tells}
 use Rattle.demands.specs.Lives.{bytesAfter, events}
 use Rattle.demands.specs.Machine.{Machine}
 use Rattle.demands.specs.Reasons.{reasons, reason}
@@ -13,16 +13,16 @@ use Rattle.demands.proofs.Caught.{small, bodyOf}
 use Rattle.demands.proofs.ShelvesOnce.{AcceptsBoth, pair, first, first-within, second-within, four}
 
 -- along a path of types
-pub coerce : {A B : Type 0} → A ≡ B → A → B
+coerce : {A B : Type 0} → A ≡ B → A → B
 coerce e x = subst (λ (T : Type 0). T) e x
 
 abbrev Given : History → Call → Answer → List ℕ → Type 0
-Given h c a o = Answers 1 2 h (reason 2 1 2 h c) c a o
+Given h c a o = Answers 1 2 h (reason 3 1 2 h c) c a o
 
 abbrev one : (a : Answer) (o : List ℕ) → History
 one a o = heard (tells []) (Call.insert 1 (bodyOf 1)) a o
 
-abbrev pub two : (a b : Answer) (o p : List ℕ) → History
+abbrev two : (a b : Answer) (o p : List ℕ) → History
 two a b o p = heard (one a o) Call.begin b p
 
 abbrev three : (a b c : Answer) (o p q : List ℕ) → History
@@ -47,14 +47,6 @@ fourth-done o p q d r f = f
 fifth-done : (o p q r : List ℕ) (e : Answer) (s : List ℕ) → Given (four Answer.done (Answer.begun 1) Answer.done (Answer.begun 2) o p q r) (Call.modify 1 (bodyOf 3)) e s → e ≡ Answer.done
 unfolding tells reasons firstOf Fulfils bodyOf heard awaits awaited
 fifth-done o p q r e s f = f
-
-none-yet : (o p : List ℕ) → needed (two Answer.done (Answer.begun 1) o p) ≡ []
-unfolding tells heard awaits awaited
-none-yet o p = refl
-
--- nothing is needed before the first change
-pub none-needed : (a b : Answer) (o p : List ℕ) → a ≡ Answer.done → b ≡ Answer.begun 1 → needed (two a b o p) ≡ []
-none-needed a b o p ea eb = (λ i. needed (two (ea i) (eb i) o p)) ∙ none-yet o p
 
 module _ (M : Machine) (d : Demand2 M) where
   -- the answer and the hand-out of each call

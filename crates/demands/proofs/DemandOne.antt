@@ -18,9 +18,10 @@ use Rattle.demands.proofs.Changes.{opened-fine}
 use Rattle.demands.proofs.Codec.{read-written}
 use Rattle.demands.proofs.Firsts.{Untrue, none-holds}
 use Rattle.demands.proofs.Moves.{Fine}
+use Rattle.demands.proofs.Sizes.{Sized}
 use Rattle.demands.proofs.SoundDesk.{to-sound, of-sound}
 use Rattle.demands.proofs.Spelling.{to-lengths, count-read, read-sized, length-slots, length-desk, written-bytes}
-use Rattle.demands.proofs.Stays.{effect-fine, effect-kept}
+use Rattle.demands.proofs.Stays.{Kept, effect-fine, effect-kept}
 use Rattle.demands.proofs.Walks.{walk-ind}
 
 -- ---- what is known of bytes that no line refuses
@@ -107,6 +108,20 @@ out-left S (Call.peek t) d = refl
 out-left S Call.tally d = refl
 out-left S (Call.owed t) d = refl
 
+-- as many slots and entries are written in as many bytes
+pub written-lengths : (l : Lent) (X : Store) → LengthsRight l → Sized X → Kept (read l) X → SameLengths l (written X)
+unfolding written read
+written-lengths l X h z k =
+    let n = to-lengths l h in
+    record {
+      desk = length-desk (X .desk) (z .desk) ∙ sym (n .desk);
+      table = length-slots (X .table) (z .table) ∙ whole (length (l .table)) (T X) (k .slots ∙ count-read (l .table)) (n .table);
+      shelf = length-slots (X .shelf) (z .shelf) ∙ whole (length (l .shelf)) (R X) (k .entries ∙ count-read (l .shelf)) (n .shelf);
+    }
+  where
+    whole : (x n : ℕ) → n ≡ x / 64 → x % 64 ≡ 0 → n * 64 ≡ x
+    whole x n e z = omega arith
+
 -- ---- every clause, refused or not
 
 module _ (l : Lent) (c : Call) (a : LentBytes l) (w : Well c) where
@@ -120,22 +135,9 @@ module _ (l : Lent) (c : Call) (a : LentBytes l) (w : Well c) where
       go none e = subst (λ (o : Option ℕ). P (replied o l c)) (sym e) (y (accepted l c e))
 
   lengths-stay : SameLengths l (called l c .after)
-  unfolding replied written read
+  unfolding replied
   lengths-stay =
-      by-refusal (λ r. SameLengths l (r .after)) (λ k e. record { desk = refl; table = refl; shelf = refl })
-      (λ q.
-      let f = accepted-fine l c a w q in
-      let n = to-lengths l (q .lengths) in
-      let k = effect-kept (read l) c in
-      let X = effect (read l) c .after in
-      record {
-        desk = length-desk (X .desk) (f .sized .desk) ∙ sym (n .desk);
-        table = length-slots (X .table) (f .sized .table) ∙ whole (length (l .table)) (T X) (k .slots ∙ count-read (l .table)) (n .table);
-        shelf = length-slots (X .shelf) (f .sized .shelf) ∙ whole (length (l .shelf)) (R X) (k .entries ∙ count-read (l .shelf)) (n .shelf);
-      })
-    where
-      whole : (x n : ℕ) → n ≡ x / 64 → x % 64 ≡ 0 → n * 64 ≡ x
-      whole x n e z = omega arith
+      by-refusal (λ r. SameLengths l (r .after)) (λ k e. record { desk = refl; table = refl; shelf = refl }) (λ q. written-lengths l (effect (read l) c .after) (q .lengths) (accepted-fine l c a w q .sized) (effect-kept (read l) c))
 
   bytes-stay : LentBytes (called l c .after)
   unfolding replied

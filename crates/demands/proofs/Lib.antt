@@ -45,6 +45,9 @@ pub mod Caught
 pub mod ShelvesOnce
 pub mod NoSmaller
 pub mod BothAccepted
+pub mod BothHanded
+pub mod HandsOut
+pub mod ShelvesFirstOnly
 pub mod FirstChangeOnly
 pub mod OldStore
 pub mod DemandOne

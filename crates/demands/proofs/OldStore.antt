@@ -61,5 +61,5 @@ pub old-store-fails-2 : Demand2 oldStore → ⊥
 unfolding bytesAfter events pair small bodyOf buffer tooEarly begins tableLook shelfLook lookAt finish walk oldEffect oldReply oldStore le toLe field u32At u64At first opened inserted changedBy given count bit NOT from scanMask REMSET-MASK-INS REMSET-MASK-UPD LCL-ACTIVE-MASK-UPD ACTIVE-MASK-UPD STATUS-MASK-UPD STATUS-MASK-SCAN-UPD STABLE-FLIP cleared begun walkEnded ended newStatus mOf each deskOf read joined deskBytes written lengthsRight ownRight firstOf ownRefusals effect refusedAs outOf Fulfils awaits awaited heard tells reasons
 old-store-fails-2 d = go (d .answers pair noon noon-within on on-within)
   where
-    go : Answers 1 2 (past oldStore pair noon) (reason 2 1 2 (past oldStore pair noon) on) on (Answer.inHand 1 1) (lastOut oldStore) → ⊥
+    go : Answers 1 2 (past oldStore pair noon) (reason 3 1 2 (past oldStore pair noon) on) on (Answer.inHand 1 1) (lastOut oldStore) → ⊥
     go f = List·Memᴰ·not-nil (f .0 .1)

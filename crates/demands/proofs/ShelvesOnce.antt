@@ -38,15 +38,16 @@ module _ (buffer : List ℕ) (vs : List Version) (h : Holds buffer vs) (some-num
   all-pass [] = refl
   all-pass (v ∷ l) = ap (λ (m : List Version). v ∷ m) (all-pass l)
 
-  pub in-use-is : used (slotsOf buffer) ≡ length vs
+  in-use-is : used (slotsOf buffer) ≡ length vs
   in-use-is =
       count-is inUse (λ v. true) (slotsOf buffer) (h .which) (h .all) (λ i k. agrees i (getD (h .which) i none) refl (h .spelt i)) ∙ ap length (all-pass (standing (h .which))) ∙ perm-length (standing (h .which)) vs (h .each)
 
 -- ---- a record changed twice, each version awaited by a scan of its own
 
+-- three positions, one slot, a pair of entries
 unfoldable pub pair : Opening
 unfolding lengthsRight small
-pair = record { old = small 2 2; n = 2; bytes = record { desk = zero-bytes 1088; table = zero-bytes 64; shelf = zero-bytes 128 }; lengths = refl; inRange = refl }
+pair = record { old = small 3 2; n = 3; bytes = record { desk = zero-bytes 1088; table = zero-bytes 64; shelf = zero-bytes 128 }; lengths = refl; inRange = refl }
 
 abbrev pub first : List Call
 first = Call.modify 1 (bodyOf 2) ∷ Call.begin ∷ Call.insert 1 (bodyOf 1) ∷ []
@@ -90,7 +91,7 @@ one-number v i = go (List·Memᴰ·cases-cons i)
     go (inl e) = let z : v .number ≡ 1 = ap (λ (u : Version). u .number) e in omega arith
     go (inr j) = absurd (List·Memᴰ·not-nil j)
 
-pub two-numbers : (v : Version) → In v (version 1 (bodyOf 2) 1 ∷ version 1 (bodyOf 1) 0 ∷ []) → 1 ≤ v .number
+two-numbers : (v : Version) → In v (version 1 (bodyOf 2) 1 ∷ version 1 (bodyOf 1) 0 ∷ []) → 1 ≤ v .number
 two-numbers v i = go (List·Memᴰ·cases-cons i)
   where
     go : (v ≡ version 1 (bodyOf 2) 1) ⊎ In v (version 1 (bodyOf 1) 0 ∷ []) → 1 ≤ v .number
@@ -108,13 +109,13 @@ pub record AcceptsBoth (M : Machine) : Type 0 where
 
 module _ (M : Machine) (a : AcceptsBoth M) (d : Demand3 M) where
   -- after the second begin one entry is in use
-  pub four-needs : needed (past M pair (Call.begin ∷ first)) ≡ version 1 (bodyOf 1) 0 ∷ []
+  four-needs : needed (past M pair (Call.begin ∷ first)) ≡ version 1 (bodyOf 1) 0 ∷ []
   unfolding bytesAfter events tells
   four-needs =
       needs-four _ _ _ _ (M (bytesAfter M pair []) (Call.insert 1 (bodyOf 1)) .out) (M (bytesAfter M pair (Call.insert 1 (bodyOf 1) ∷ [])) Call.begin .out) (M (bytesAfter M pair (Call.begin ∷ Call.insert 1 (bodyOf 1) ∷ [])) (Call.modify 1 (bodyOf 2)) .out) (M (bytesAfter M pair first) Call.begin .out)
       (a .inserted) (a .begun) (a .modified) (a .again)
 
-  pub one-in-use : used (slotsOf (bytesAfter M pair (Call.begin ∷ first) .shelf)) ≡ 1
+  one-in-use : used (slotsOf (bytesAfter M pair (Call.begin ∷ first) .shelf)) ≡ 1
   one-in-use =
       in-use-is (bytesAfter M pair (Call.begin ∷ first) .shelf) (version 1 (bodyOf 1) 0 ∷ [])
       (subst (λ (l : List Version). Holds (bytesAfter M pair (Call.begin ∷ first) .shelf) l) four-needs (d .shelf pair (a .opened) (Call.begin ∷ first) (tt, first-within))) one-number

@@ -16,6 +16,7 @@ use Rattle.rules.specs.Memory.{Lent, Slot, free, idle, Desk, Store, each, slotA
 use Rattle.rules.specs.Refusals.{slotsRight, lengthsRight}
 use Rattle.rules.proofs.Bytes.{Bytes, length-field, bytes-toLe, length-toLe, u32-small, u64-small}
 use Rattle.rules.proofs.Each.{length-each, at-each}
+use Rattle.rules.proofs.RoundTrip.{Right}
 use Rattle.demands.proofs.Codec.{length-joined, length-slot, length-card}
 use Rattle.demands.proofs.Sizes.{CardSized, SlotSized, DeskSized, Sized, idle-sized, free-sized}
 
@@ -89,6 +90,11 @@ to-lengths l e =
       entries = leb-true _ _ (g .0);
       entriesMost = leb-true _ _ (g .1);
     }
+
+pub to-right : (l : Lent) → LentBytes l → LengthsRight l → Right l
+to-right l a e =
+    let n = to-lengths l e in
+    record { deskLength = n .desk; tableWhole = n .table; shelfWhole = n .shelf; deskBytes = to-bytes (l .desk) (a .desk); tableBytes = to-bytes (l .table) (a .table); shelfBytes = to-bytes (l .shelf) (a .shelf) }
 
 -- ---- from bytes
 
