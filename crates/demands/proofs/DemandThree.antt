@@ -7,7 +7,7 @@ use Rattle.demands.specs.DemandThree.{Reads, Holds, Demand3}
 use Rattle.demands.specs.History.{Version, History, needed}
 use Rattle.demands.specs.Placement.{Places}
 use Rattle.rules.specs.Calls.{slotIn}
-use Rattle.rules.specs.Memory.{Lent, read, slotsOf}
+use Rattle.rules.specs.Memory.{Lent, read}
 use Rattle.rules.specs.Refusals.{called}
 use Rattle.demands.proofs.Invariant.{aw, placeIn}
 use Rattle.demands.proofs.Lives.{Living, all-live}

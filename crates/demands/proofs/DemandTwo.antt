@@ -1,7 +1,7 @@
 -- The calls of document 01, on lent bytes, meet demand 2.
 use mathlib.Core.Path.{_≡_, sym, ap, _∙_}
 use Rattle.demands.specs.DemandTwo.{Demand2}
-use Rattle.demands.specs.Lives.{Opening, tableSlots, shelfEntries, Accepted, bytesAfter, events, past}
+use Rattle.demands.specs.Lives.{Opening, tableSlots, shelfEntries, Accepted, bytesAfter, past}
 use Rattle.demands.specs.Placement.{lowest, placesAfter}
 use Rattle.rules.specs.Calls.{opened}
 use Rattle.rules.specs.Memory.{written}

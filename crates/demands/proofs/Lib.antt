@@ -52,4 +52,5 @@ pub mod FirstChangeOnly
 pub mod OldStore
 pub mod DemandOne
 pub mod Packing
+pub mod SameBytes
 pub mod Ours

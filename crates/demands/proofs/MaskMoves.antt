@@ -3,11 +3,10 @@ use mathlib.Core.Path.{_≡_, refl, sym, ap, _∙_}
 use mathlib.Core.Bool.{Bool, true, false, not, _&&_, false≢true}
 use mathlib.Core.Option.{Option, some}
 use mathlib.Core.List.{List, _∷_}
-use Prim.Native.Nat.{ℕ, _+_, _-_, _%_, _^_, _<_, max}
+use Prim.Native.Nat.{ℕ, _+_, _-_, _%_, _<_, max}
 use native.Mathlib.Omega.{arith}
 use native.Mathlib.Decide.{ℕ-discrete}
 use lib.Bits.{bitOr, bitXor, or-lt, xor-lt}
-use lib.Dec.{eqb}
 use borrow.Author.Tests.{eq-eqb}
 use Rattle.demands.specs.History.{Version, Scan}
 use Rattle.demands.specs.Lives.{Opening, tableSlots, bytesAfter}
@@ -15,11 +14,11 @@ use Rattle.demands.specs.Machine.{Machine}
 use Rattle.demands.specs.Masks.{one, noneRuns, walks, waitsFor, masksAfter, statusAfter, remsetAfter, walking, waits, walksEnded, inSlot, inEntry, MasksMean}
 use Rattle.demands.specs.Placement.{Placing, standsAt}
 use Rattle.demands.specs.TableOne.{ReadBy}
-use Rattle.rules.specs.Masks.{bit, off, NOT, scanMask, REMSET-MASK-INS, REMSET-MASK-UPD, LCL-ACTIVE-MASK-UPD, ACTIVE-MASK-UPD, STATUS-MASK-UPD, STATUS-MASK-SCAN-UPD, STABLE-FLIP}
+use Rattle.rules.specs.Masks.{bit, off, scanMask, REMSET-MASK-INS, REMSET-MASK-UPD, LCL-ACTIVE-MASK-UPD, ACTIVE-MASK-UPD, STATUS-MASK-UPD, STATUS-MASK-SCAN-UPD, STABLE-FLIP}
 use Rattle.rules.specs.Memory.{read}
 use Rattle.rules.specs.Refusals.{Call}
 use Rattle.rules.proofs.Bits.{bit-low, bit-or, bit-xor, bit-not, bit-ext, not-small, scan-own, scan-other, scan-small}
-use Rattle.rules.proofs.TableOne.{flip-own, flip-other, set-own, set-other, m-bit, table-read, remset-read}
+use Rattle.rules.proofs.TableOne.{flip-own, flip-other, set-own, set-other, table-read, remset-read}
 use Rattle.demands.proofs.Sizes.{Sized}
 
 -- ---- what a scan reads

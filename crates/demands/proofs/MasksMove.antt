@@ -4,16 +4,16 @@ use mathlib.Core.Bool.{Bool, true, false, not, _&&_}
 use mathlib.Core.Option.{Option, none, some}
 use mathlib.Core.List.{List, [], _∷_}
 use mathlib.Core.Logic.{inl, inr}
-use Prim.Native.Nat.{ℕ, _+_, _%_, _≤_, _<_}
+use Prim.Native.Nat.{ℕ, _+_, _%_, _<_}
 use native.Mathlib.Nat.{div-eq-of-lt}
 use native.Mathlib.Omega.{arith}
 use lib.Pow.{pow-pos}
 use lib.Dec.{ltb}
 use lib.ListN.{getD}
-use borrow.Author.Tests.{eqb-true, eqb-false, ne-eqb}
+use borrow.Author.Tests.{eqb-true, eqb-false}
 use Rattle.demands.specs.History.{Version, Scan, History}
 use Rattle.demands.specs.Lists.{All}
-use Rattle.demands.specs.Lives.{Opening, tableSlots, shelfEntries, bytesAfter, events, past}
+use Rattle.demands.specs.Lives.{Opening, tableSlots, shelfEntries, bytesAfter, past}
 use Rattle.demands.specs.Machine.{Within}
 use Rattle.demands.specs.Masks.{one, noneRuns, walks, waitsFor, walking, walksEnded, masksAfter, MasksMove}
 use Rattle.demands.specs.Placement.{lowest, scanWith, placesAfter}

@@ -1,7 +1,7 @@
 -- Two machines that meet demand 2 and the rule of next, with versions put in the same places, answer every list of calls alike.
 use mathlib.Core.Path.{_≡_, refl, sym, ap, _∙_, subst}
 use mathlib.Core.Bool.{Bool, true, false, not, _||_, cond, false≢true}
-use mathlib.Core.Option.{Option, none, some}
+use mathlib.Core.Option.{Option, none, some, Option·some-injective, Option·some-ne-none}
 use mathlib.Core.List.{List, [], _∷_}
 use Prim.Native.Nat.{ℕ, _+_, _≤_}
 use native.Mathlib.Omega.{arith}
@@ -15,11 +15,12 @@ use Rattle.demands.specs.Machine.{Machine, Within}
 use Rattle.demands.specs.Placement.{Placing, Places, sit, placeOf, shelve, moves, placed, placesAfter, row, LooksRight}
 use Rattle.demands.specs.Reasons.{reason, reasons}
 use Rattle.demands.specs.RuleOfNext.{Peeks, stillToCome, RuleOfNext}
-use Rattle.rules.specs.Answers.{Answer}
-use Rattle.rules.specs.Refusals.{Call}
+use Rattle.rules.specs.Answers.{Answer, number}
+use Rattle.rules.specs.Refusals.{Call, firstOf, refusedAs}
 use Rattle.demands.proofs.Firsts.{Untrue, none-holds}
-use Rattle.demands.proofs.Lives.{refused-heard}
+use Rattle.demands.proofs.Lives.{no-refusal, refused-heard}
 use Rattle.demands.proofs.Places.{length-keep}
+use Rattle.demands.proofs.ReasonsAre.{skip-first, holds-first}
 use Rattle.demands.proofs.SameAnswers.{alike, one-part}
 
 -- ---- there are as many places as slots and entries
@@ -143,6 +144,24 @@ module _ (N T R : ℕ) (h : History) (p : Places) (i : Sized T R p) where
       go (some k) e v w =
           (v ∙ sym w, ap (λ (x : Answer). heard h c x o) v ∙ refused-heard h c k o ∙ sym (ap (λ (x : Answer). heard h c x u) w ∙ refused-heard h c k u))
 
+  -- what next hands out
+  pub same-out : (t b : ℕ) (x : List ℕ) (a c : Answer) (o u : List ℕ) → Right (Call.next t b x) a o → Right (Call.next t b x) c u → number a ≡ 0 → o ≡ u
+  unfolding reasons Fulfils refusedAs number
+  same-out t b x a c o u f g z = go (reason N T R h (Call.next t b x)) refl (f .answers) (g .answers)
+    where
+      refused-not : (y w : Bool) (k : ℕ) → firstOf ((y, 1) ∷ (w, 10) ∷ []) ≡ some k → k ≡ 0 → ⊥
+      refused-not true w k e y = let q : 1 ≡ k = Option·some-injective 1 k (sym (holds-first 1 _) ∙ e) in omega arith
+      refused-not false true k e y = let q : 10 ≡ k = Option·some-injective 10 k (sym (skip-first false 1 _ refl ∙ holds-first 10 _) ∙ e) in omega arith
+      refused-not false false k e y = Option·some-ne-none k (sym e ∙ skip-first false 1 _ refl ∙ skip-first false 10 _ refl ∙ no-refusal)
+
+      going : (y : Option Scan) → scanOf h t ≡ y → Going T R h y b o a → Going T R h y b u c → reason N T R h (Call.next t b x) ≡ none → o ≡ u
+      going none e v w r = absurd v
+      going (some s) e v w r = alike T R (row p) s b h t a c o u v (f .reading r s e) w (g .reading r s e) .outs z
+
+      go : (y : Option ℕ) → reason N T R h (Call.next t b x) ≡ y → Answers T R h y (Call.next t b x) a o → Answers T R h y (Call.next t b x) c u → o ≡ u
+      go none e v w = going (scanOf h t) refl v w e
+      go (some k) e v w = absurd (refused-not _ _ k e (sym (ap number v) ∙ z))
+
 -- ---- every list of calls
 
 module _ (M : Machine) (P : Placing) (d : Demand2 M) (r : RuleOfNext M P) (o : Opening) (cs : List Call) (ws : All Within cs) where
@@ -206,6 +225,12 @@ module _ (M K : Machine) (P : Placing) (d : Demand2 M) (r : RuleOfNext M P) (f :
           let e : heard (past K o cs) c (K (bytesAfter K o cs) c .answer) (K (bytesAfter K o cs) c .out) ≡ heard (past M o cs) c (M (bytesAfter M o cs) c .answer) (M (bytesAfter M o cs) c .out) =
           ap (λ (h : History). heard h c (K (bytesAfter K o cs) c .answer) (K (bytesAfter K o cs) c .out)) (z .tell) ∙ s .1 in
           record { tell = e; places = λ i. moves P (z .tell i) (e i) (z .places i) c (s .0 i) }
+
+  -- what next hands out
+  pub same-outs : (cs : List Call) → All Within cs → (t b : ℕ) (x : List ℕ) → Within (Call.next t b x) → number (K (bytesAfter K o cs) (Call.next t b x) .answer) ≡ 0
+      → K (bytesAfter K o cs) (Call.next t b x) .out ≡ M (bytesAfter M o cs) (Call.next t b x) .out
+  same-outs cs ws t b x w z =
+      same-out (o .n) T R (past M o cs) (placesAfter M P o cs) (sized M P d r o cs ws) t b x _ _ _ _ (there cs ws (one-history cs ws) (Call.next t b x) w) (is-right M P d r o cs ws (Call.next t b x) w) z
 
   -- the answer to every further call
   pub same-answers : (cs : List Call) → All Within cs → (c : Call) → Within c → K (bytesAfter K o cs) c .answer ≡ M (bytesAfter M o cs) c .answer

@@ -34,6 +34,10 @@ unfolding firstOf
 same-first a true k ts us e f = rw e refl
 same-first a false k ts us e f = rw e (f refl)
 
+pub holds-first : (k : ℕ) (ts : List (Bool × ℕ)) → firstOf ((true, k) ∷ ts) ≡ some k
+unfolding firstOf
+holds-first k ts = refl
+
 pub skip-first : (a : Bool) (k : ℕ) (ts : List (Bool × ℕ)) → a ≡ false → firstOf ((a, k) ∷ ts) ≡ firstOf ts
 unfolding firstOf
 skip-first a k ts e = rw e refl

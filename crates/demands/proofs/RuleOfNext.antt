@@ -10,7 +10,7 @@ use lib.ListN.{length}
 use Rattle.demands.specs.DemandTwo.{Goes}
 use Rattle.demands.specs.History.{Version, Scan, History, needed, scanOf}
 use Rattle.demands.specs.Lists.{All}
-use Rattle.demands.specs.Lives.{Opening, tableSlots, shelfEntries, bytesAfter, events, past}
+use Rattle.demands.specs.Lives.{Opening, tableSlots, shelfEntries, bytesAfter, past}
 use Rattle.demands.specs.Machine.{Within}
 use Rattle.demands.specs.Placement.{lowest, placesAfter, row, LooksRight}
 use Rattle.demands.specs.Reasons.{reason, reasons}

@@ -12,7 +12,7 @@ use Rattle.demands.specs.DemandTwo.{Goes}
 use Rattle.demands.specs.History.{Version, Scan, History, reads, goes, onNext, tells}
 use Rattle.demands.specs.Placement.{due, Passes, Finds, LooksRight}
 use Rattle.demands.specs.RuleOfNext.{Peeks}
-use Rattle.rules.specs.Answers.{Answer}
+use Rattle.rules.specs.Answers.{Answer, number}
 use Rattle.demands.proofs.Places.{at-below}
 
 -- ---- one answer of next
@@ -44,6 +44,7 @@ module _ (T R : ℕ) (l : List (Option Version)) (s : Scan) (budget : ℕ) (h : 
   pub record Alike (a b : Answer) (o u : List ℕ) : Type 0 where
     pub answers : a ≡ b
     pub tell : onNext a h t o ≡ onNext b h t u
+    pub outs : number a ≡ 0 → o ≡ u
 
   hands-once : (k x m y : ℕ) (o u : List ℕ) → Goes T R s budget o (Answer.inHand k x) → LooksRight l s o (Answer.inHand k x) → Goes T R s budget u (Answer.inHand m y) → LooksRight l s u (Answer.inHand m y)
       → Alike (Answer.inHand k x) (Answer.inHand m y) o u
@@ -61,7 +62,7 @@ module _ (T R : ℕ) (l : List (Option Version)) (s : Scan) (budget : ℕ) (h : 
           let q : m + y ≡ budget = f .2 in
           let b : x ≡ y = omega arith in
           let c : o ≡ u = same-find (w .0) (v .0) o u e (w .3) (v .3) in
-          record { answers = λ i. Answer.inHand (a i) (b i); tell = λ i. goes h t (a i) (c i ∷ []) }
+          record { answers = λ i. Answer.inHand (a i) (b i); tell = λ i. goes h t (a i) (c i ∷ []); outs = λ _. c }
 
   -- it cannot hand out and pass as many places as it may
   hands-not-passed : (k x m : ℕ) (o : List ℕ) → Goes T R s budget o (Answer.inHand k x) → LooksRight l s o (Answer.inHand k x) → Passes l s m → (m ≡ budget) ⊎ (s .looks + m ≡ T + R) → ⊥
@@ -69,11 +70,12 @@ module _ (T R : ℕ) (l : List (Option Version)) (s : Scan) (budget : ℕ) (h : 
   hands-not-passed k x m o g w p (inr e) = let i : k ≡ suc (w .0) = w .1 in let j : s .looks + k ≤ T + R = g .3 in passed-or-found m (w .0) o p (w .3) (omega arith)
 
   one-answer : (a b : Answer) (o u : List ℕ) → Seen a o → Seen b u → Alike a b o u
+  unfolding number
   one-answer a b o u (hands k x p g w) (hands m y r f v) = hands-once k x m y p r g w f v
   one-answer a b o u (hands k x p g w) (pauses m r f v) = absurd (hands-not-passed k x m p g w v (inl (f .0)))
   one-answer a b o u (hands k x p g w) (ends m y n r f v) = absurd (hands-not-passed k x m p g w v (inr (f .3)))
   one-answer a b o u (pauses m r f v) (hands k x p g w) = absurd (hands-not-passed k x m p g w v (inl (f .0)))
-  one-answer a b o u (pauses k p g w) (pauses m r f v) = let e : k ≡ m = g .0 ∙ sym (f .0) in record { answers = ap Answer.paused e; tell = ap (λ (n : ℕ). goes h t n []) e }
+  one-answer a b o u (pauses k p g w) (pauses m r f v) = let e : k ≡ m = g .0 ∙ sym (f .0) in record { answers = ap Answer.paused e; tell = ap (λ (n : ℕ). goes h t n []) e; outs = λ z. absurd (omega arith) }
   one-answer a b o u (pauses k p g w) (ends m y n r f v) = let i : k ≡ budget = g .0 in let j : s .looks + k < T + R = g .1 in let c : m + y ≡ budget = f .2 in let d : s .looks + m ≡ T + R = f .3 in absurd (omega arith)
   one-answer a b o u (ends m y n r f v) (hands k x p g w) = absurd (hands-not-passed k x m p g w v (inr (f .3)))
   one-answer a b o u (ends m y n r f v) (pauses k p g w) = let i : k ≡ budget = g .0 in let j : s .looks + k < T + R = g .1 in let c : m + y ≡ budget = f .2 in let d : s .looks + m ≡ T + R = f .3 in absurd (omega arith)
@@ -84,7 +86,7 @@ module _ (T R : ℕ) (l : List (Option Version)) (s : Scan) (budget : ℕ) (h : 
       let i : k + x ≡ budget = g .2 in
       let z : m + y ≡ budget = f .2 in
       let q : x ≡ y = omega arith in
-      record { answers = λ i. Answer.finished (e i) (q i) ((g .1 ∙ sym (f .1)) i); tell = refl }
+      record { answers = λ i. Answer.finished (e i) (q i) ((g .1 ∙ sym (f .1)) i); tell = refl; outs = λ z. absurd (omega arith) }
 
   pub alike : (a b : Answer) (o u : List ℕ) → Goes T R s budget o a → LooksRight l s o a → Goes T R s budget u b → LooksRight l s u b → Alike a b o u
   alike a b o u g w f v = one-answer a b o u (see a o g w) (see b u f v)

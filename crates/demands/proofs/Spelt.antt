@@ -1,5 +1,5 @@
 -- What the calls of document 01 leave in every byte that is no mask.
-use mathlib.Core.Path.{_≡_, refl, sym, ap, _∙_, subst}
+use mathlib.Core.Path.{_≡_, refl, sym, ap, _∙_}
 use mathlib.Core.Bool.{Bool, true, false, _&&_, false≢true}
 use mathlib.Core.Option.{Option, none, some}
 use mathlib.Core.List.{List, [], _∷_}
@@ -14,11 +14,11 @@ use Rattle.demands.specs.Placement.{lowest, Places, sitting, placesAfter
 use Rattle.demands.specs.Spelt.{cardWith, Spells, Spelt}
 use Rattle.rules.specs.declared.Card.{Card}
 use Rattle.rules.specs.Calls.{cardOf}
-use Rattle.rules.specs.Memory.{idle, Lent, T, R, read}
+use Rattle.rules.specs.Memory.{Lent, T, R, read}
 use Rattle.rules.specs.Refusals.{called}
 use Rattle.rules.specs.Sound.{allZero}
 use Rattle.demands.proofs.DemandThree.{slot-reads, entry-reads}
-use Rattle.demands.proofs.Invariant.{seat, position}
+use Rattle.demands.proofs.Invariant.{seat}
 use Rattle.demands.proofs.Lives.{Living, all-live}
 use Rattle.demands.proofs.MasksMove.{resting}
 use Rattle.demands.proofs.Places.{At}

@@ -17,7 +17,6 @@ use Rattle.demands.specs.Placement.{lowest, Places, moves, placed, scanW
 use Rattle.demands.specs.Reasons.{reason}
 use Rattle.demands.specs.TableOne.{Moved, TableOne}
 use Rattle.rules.specs.Answers.{Answer}
-use Rattle.rules.specs.Memory.{Store, read}
 use Rattle.rules.specs.Refusals.{Call, refusedAs, called}
 use Rattle.demands.proofs.Apart.{apart-across}
 use Rattle.demands.proofs.Invariant.{at-live, at-needed, runs-at, beyond}
@@ -28,7 +27,6 @@ use Rattle.demands.proofs.MasksMove.{masks-move}
 use Rattle.demands.proofs.NextKeeps.{shelf-awaited}
 use Rattle.demands.proofs.Past.{changeOf, unmade}
 use Rattle.demands.proofs.Positions.{all-run, sitting-is}
-use Rattle.demands.proofs.Steps.{Stepped}
 
 -- ---- a change moves no scan, and no other call makes a version or lets one leave
 

@@ -5,12 +5,11 @@ use mathlib.Core.Option.{Option, none, some}
 use mathlib.Core.List.{List, []}
 use Prim.Native.Nat.{ℕ, zero, suc, _+_, _-_}
 use lib.Dec.{ltb, eqb}
-use lib.ListN.{length, set}
-use Rattle.rules.specs.declared.Card.{Card}
+use lib.ListN.{set}
 use Rattle.rules.specs.Answers.{Answer}
 use Rattle.rules.specs.Calls.{first, slotIn, cardOf, positionOf, freePosition}
 use Rattle.rules.specs.Masks.{Masks, masks, begun, ended, scanMask, STABLE-FLIP, ACTIVE-MASK-UPD, LCL-ACTIVE-MASK-UPD}
-use Rattle.rules.specs.Memory.{Lent, Slot, card, idle, Desk, desk, Store, store, T, R, read, version}
+use Rattle.rules.specs.Memory.{Lent, Slot, card, idle, desk, Store, store, T, R, read, version}
 use Rattle.rules.specs.Next.{Told, told, deskWith, moved, inTable, flipped, onShelf, taken}
 use Rattle.rules.specs.Refusals.{Call, allRight, firstOf, ownRefusals, effect, Reply, reply, writtenAll, refusedAs, outOf}
 use Rattle.demands.specs.Machine.{Machine}
