@@ -43,6 +43,10 @@ pub mod NoSmaller
 pub mod BothAccepted
 pub mod FirstChangeOnly
 pub mod OldStore
+pub mod Alike
+pub mod AlikeLooks
+pub mod AlikeCalls
+pub mod ClearAtBegin
 pub mod DemandOne
 pub mod Packing
 pub mod Ours

@@ -180,6 +180,14 @@ module _ (n t r : ℕ) (S : Store) (h : History) (gt gs : List (Option Version))
         looked = tt;
       }
 
+  -- a free position is in no table walk
+  pub resting : (p : ℕ) → p < 64 → bit (S .desk .masks .active) p ≡ 1 → bit (S .desk .masks .local) p ≡ 1
+  resting p hp a = go (q .fine .sound .cards p (omega (arith, q .fine .sized .desk .all)))
+    where
+      go : CardSound (S .desk .masks) (T S) (R S) (S .desk .last) (getD (S .desk .cards) p idle) p → bit (S .desk .masks .local) p ≡ 1
+      go (inl x) = x .local
+      go (inr x) = absurd (omega (arith, x .active))
+
   begin-steps : Untrue (ownRefusals S Call.begin) → Stepped Call.begin (Answer.begun (S .desk .last + 1)) (given S (freePosition S)) []
   unfolding ownRefusals heard moves Fulfils
   begin-steps u =
@@ -197,13 +205,6 @@ module _ (n t r : ℕ) (S : Store) (h : History) (gt gs : List (Option Version))
     where
       less : (x y : ℕ) → x ≡ y → x < 4294967296 → (x ≡ 4294967295 → ⊥) → y < 4294967295
       less x y e l d = omega arith
-
-      resting : (p : ℕ) → p < 64 → bit (S .desk .masks .active) p ≡ 1 → bit (S .desk .masks .local) p ≡ 1
-      resting p hp a = go (q .fine .sound .cards p (omega (arith, q .fine .sized .desk .all)))
-        where
-          go : CardSound (S .desk .masks) (T S) (R S) (S .desk .last) (getD (S .desk .cards) p idle) p → bit (S .desk .masks .local) p ≡ 1
-          go (inl x) = x .local
-          go (inr x) = absurd (omega (arith, x .active))
 
   next-steps : (k b : ℕ) (o : List ℕ) → Untrue (ownRefusals S (Call.next k b o)) → Stepped (Call.next k b o) (walk S (positionOf S k) b 0 o .answer) (walk S (positionOf S k) b 0 o .after) (walk S (positionOf S k) b 0 o .out)
   unfolding ownRefusals heard moves Fulfils
