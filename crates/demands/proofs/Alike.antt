@@ -50,11 +50,14 @@ pub record Twin (S Z : Store) : Type 0 where
 
 -- ---- a slot, while the masks move
 
-pub in-use-some : (s : Slot) → inUse s ≡ true → 1 ≤ s .number
-in-use-some s e = go (s .number) (eqb-false _ _ (not-true _ e))
+pub some-number : (k : ℕ) → eqb k 0 ≡ false → 1 ≤ k
+some-number k e = go k (eqb-false k 0 e)
   where
-    go : (n : ℕ) → (n ≡ 0 → ⊥) → 1 ≤ n
-    go n d = omega arith
+    go : (k : ℕ) → (k ≡ 0 → ⊥) → 1 ≤ k
+    go k d = omega arith
+
+pub in-use-some : (s : Slot) → inUse s ≡ true → 1 ≤ s .number
+in-use-some s e = some-number (s .number) (not-true _ e)
 
 -- masks that leave alike what is alike: a position in its table walk was in it before, with the same stable bit
 pub slot-stays : (m k : Masks) → ((i : ℕ) → i < 64 → bit (k .local) i ≡ 0 → (bit (m .local) i ≡ 0) × (bit (k .stable) i ≡ bit (m .stable) i)) → (s z : Slot) → SlotAlike m s z → SlotAlike k s z

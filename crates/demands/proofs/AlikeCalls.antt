@@ -10,7 +10,7 @@ use lib.Bits.{bitXor, and-le-l}
 use lib.Dec.{ltb, eqb}
 use lib.ListN.{length, getD, set, length-set, length-map, List·getD-map}
 use lib.Pow.{pow-pos}
-use borrow.Author.Tests.{ltb-true, eqb-true, eqb-false, not-false}
+use borrow.Author.Tests.{ltb-true, eqb-true, not-false}
 use Rattle.demands.specs.ClearAtBegin.{clearedIf, clearedSlot, clearedAll, clearing}
 use Rattle.demands.specs.DemandTwo.{Unrefused}
 use Rattle.demands.specs.History.{Version, Scan, History}
@@ -24,7 +24,7 @@ use Rattle.rules.specs.Next.{Told}
 use Rattle.rules.specs.Refusals.{Call, kindRight, ownRight, firstOf, there, noRoom, ownRefusals, effect}
 use Rattle.rules.proofs.Bits.{bit-low, bit-zero, bit-xor}
 use Rattle.rules.proofs.TableOne.{new-passed, clear-own, clear-other}
-use Rattle.demands.proofs.Alike.{unturned, other, SlotAlike, Alike, Twin, in-use-some, free-alike, bearing-same, there-same, there-used, unawaited-same, present-same}
+use Rattle.demands.proofs.Alike.{unturned, other, SlotAlike, Alike, Twin, some-number, in-use-some, free-alike, bearing-same, there-same, there-used, unawaited-same, present-same}
 use Rattle.demands.proofs.AlikeLooks.{walk-alike}
 use Rattle.demands.proofs.Changes.{Writes, new-small, replaced-sized}
 use Rattle.demands.proofs.Firsts.{Untrue, first-passes}
@@ -36,12 +36,6 @@ use Rattle.demands.proofs.ReasonsAre.{same-first}
 use Rattle.demands.proofs.Sizes.{SlotSized, set-all}
 use Rattle.demands.proofs.Stays.{at-position, ticket-some, ticket-there}
 use Rattle.demands.proofs.Steps.{resting}
-
-some-number : (k : ℕ) → eqb k 0 ≡ false → 1 ≤ k
-some-number k e = go k (eqb-false k 0 e)
-  where
-    go : (k : ℕ) → (k ≡ 0 → ⊥) → 1 ≤ k
-    go k d = omega arith
 
 -- ---- one slot
 
@@ -56,9 +50,9 @@ new-alike m n k b hs hl u e =
       bits = λ _ i h l. omega (arith, new-passed 64 0 (m .local) i (pow-pos 64) hl h l, bit-zero i, bit-low (newStatus (unturned m)) i, bit-xor (m .stable) (newStatus m) i, new-passed 64 (m .stable) (m .local) i hs hl h l);
     }
 
-replaced-alike : (m : Masks) (s z : Slot) (b : Option (List ℕ)) (x y : ℕ) → 1 ≤ s .number → SlotAlike m s z → ((c : List ℕ) → SlotAlike m (slot (s .number) c x) (slot (z .number) c y)) → SlotAlike m (replaced s b x) (replaced z b y)
-replaced-alike m s z none x y u a h = free-alike m
-replaced-alike m s z (some c) x y u a h = h c
+replaced-alike : (m : Masks) (s z : Slot) (b : Option (List ℕ)) (x y : ℕ) → ((c : List ℕ) → SlotAlike m (slot (s .number) c x) (slot (z .number) c y)) → SlotAlike m (replaced s b x) (replaced z b y)
+replaced-alike m s z none x y h = free-alike m
+replaced-alike m s z (some c) x y h = h c
 
 -- the bit of position p cleared, where ours is stable for it
 cleared-alike : (m : Masks) (p : ℕ) → p < 64 → (s z : Slot) → (1 ≤ s .number → bit (bitXor (m .stable) (s .mask)) p ≡ 0) → SlotAlike m s z → SlotAlike (begun m p) s (clearedSlot p z)
@@ -135,14 +129,14 @@ module _ (S : Store) (f : Fine S) (t : List Slot) (a : Alike S t) where
         table = set t i (replaced (slotIn t i) b (slotIn t i .mask));
         is = refl;
         alike = set-alike i h (replaced (slotIn (S .table) i) b (slotIn (S .table) i .mask)) (replaced (slotIn t i) b (slotIn t i .mask))
-            (replaced-alike (S .desk .masks) (slotIn (S .table) i) (slotIn t i) b _ _ u (a .slots i) (λ c. record { number = a .slots i .number; body = refl; empty = λ e. absurd (omega arith); bits = a .slots i .bits }))
+            (replaced-alike (S .desk .masks) (slotIn (S .table) i) (slotIn t i) b _ _ (λ c. record { number = a .slots i .number; body = refl; empty = λ e. absurd (omega arith); bits = a .slots i .bits }))
             (replaced-sized (slotIn t i) b (slotIn t i .mask) (a .sized i) w (a .sized i .mask)) (S .shelf);
       }
       go false = record {
         table = set t i (replaced (slotIn t i) b (newStatus (unturned (S .desk .masks))));
         is = ap (λ (s : Slot). store (other S t .desk) (set t i (replaced (slotIn t i) b (newStatus (unturned (S .desk .masks))))) (set (S .shelf) (shelfEntry S) s)) (present-same S f t a i u);
         alike = set-alike i h (replaced (slotIn (S .table) i) b (newStatus (S .desk .masks))) (replaced (slotIn t i) b (newStatus (unturned (S .desk .masks))))
-            (replaced-alike (S .desk .masks) (slotIn (S .table) i) (slotIn t i) b _ _ u (a .slots i) (λ c. new-alike (S .desk .masks) (slotIn (S .table) i .number) (slotIn t i .number) c (f .sized .desk .stable) (f .sized .desk .local) u (a .slots i .number)))
+            (replaced-alike (S .desk .masks) (slotIn (S .table) i) (slotIn t i) b _ _ (λ c. new-alike (S .desk .masks) (slotIn (S .table) i .number) (slotIn t i .number) c (f .sized .desk .stable) (f .sized .desk .local) u (a .slots i .number)))
             (replaced-sized (slotIn t i) b (newStatus (unturned (S .desk .masks))) (a .sized i) w (new-small (unturned (S .desk .masks)))) (set (S .shelf) (shelfEntry S) (present S i));
       }
 

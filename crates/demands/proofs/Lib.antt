@@ -46,6 +46,7 @@ pub mod OldStore
 pub mod Alike
 pub mod AlikeLooks
 pub mod AlikeCalls
+pub mod AlikeLives
 pub mod ClearAtBegin
 pub mod DemandOne
 pub mod Packing
