@@ -22,7 +22,7 @@ use Rattle.demands.proofs.Moves.{Fine}
 use Rattle.demands.proofs.Sizes.{SlotSized, Sized}
 use Rattle.demands.proofs.SoundDesk.{CardSound, Sound}
 
--- its stable bits never turn
+-- the masks of the other store: its stable bits never turn
 abbrev pub unturned : Masks → Masks
 unturned m = masks 0 (m .active) (m .local)
 
@@ -30,19 +30,20 @@ unturned m = masks 0 (m .active) (m .local)
 abbrev pub other : Store → List Slot → Store
 other S t = store (desk (S .desk .n) (S .desk .t) (S .desk .r) (S .desk .last) (unturned (S .desk .masks)) (S .desk .zeros) (S .desk .cards)) t (S .shelf)
 
--- a slot of ours and its: the same record, and each scan in its table walk finds the same
+-- a slot s of ours and z of the other: the same record, and to each scan in its table walk stable in both or in neither
 pub record SlotAlike (m : Masks) (s z : Slot) : Type 0 where
   pub number : z .number ≡ s .number
   pub body : z .body ≡ s .body
   pub empty : s .number ≡ 0 → z ≡ s
   pub bits : 1 ≤ s .number → (i : ℕ) → i < 64 → bit (m .local) i ≡ 0 → bit (z .mask) i ≡ bit (bitXor (m .stable) (s .mask)) i
 
+-- slot by slot, over a table that bytes can spell
 pub record Alike (S : Store) (t : List Slot) : Type 0 where
   pub all : length t ≡ T S
   pub slots : (i : ℕ) → SlotAlike (S .desk .masks) (slotIn (S .table) i) (slotIn t i)
   pub sized : (i : ℕ) → SlotSized (slotIn t i)
 
--- our store and its
+-- Z is the other store beside S
 pub record Twin (S Z : Store) : Type 0 where
   pub table : List Slot
   pub is : Z ≡ other S table
@@ -74,6 +75,20 @@ free-alike m = record { number = refl; body = refl; empty = λ _. refl; bits = �
 
 -- ---- a store
 
+-- a slot that is found by a number is in use
+pub there-used : (S : Store) (k : ℕ) → 1 ≤ k → there S k ≡ true → 1 ≤ slotIn (S .table) (bearing (S .table) k) .number
+there-used S k h e =
+    let l : bearing (S .table) k < T S = ltb-true _ _ e in
+    let z : slotIn (S .table) (bearing (S .table) k) .number ≡ k = eqb-true _ _ (first-passes (λ i. eqb (slotIn (S .table) i .number) k) 0 (T S) (omega arith)) in
+    omega arith
+
+module _ (S : Store) (t : List Slot) (a : Alike S t) where
+  pub bearing-same : (k : ℕ) → bearing t k ≡ bearing (S .table) k
+  bearing-same k = λ j. first (λ i. eqb (a .slots i .number j) k) 0 (a .all j)
+
+  pub there-same : (k : ℕ) → there (other S t) k ≡ there S k
+  there-same k = λ j. ltb (bearing-same k j) (a .all j)
+
 module _ (S : Store) (f : Fine S) (t : List Slot) (a : Alike S t) where
   pub other-sized : Sized (other S t)
   other-sized =
@@ -101,19 +116,6 @@ module _ (S : Store) (f : Fine S) (t : List Slot) (a : Alike S t) where
       card : (i : ℕ) → CardSound (S .desk .masks) (T S) (R S) (S .desk .last) (cardOf S i) i → CardSound (unturned (S .desk .masks)) (length t) (R S) (S .desk .last) (cardOf S i) i
       card i (inl x) = inl (record { none = x .none; active = x .active; local = x .local })
       card i (inr x) = rw (a .all) (inr (record { ticket = x .ticket; given = x .given; active = x .active; place = x .place; local = x .local; handed = x .handed; rest = x .rest }))
-
-  pub bearing-same : (k : ℕ) → bearing t k ≡ bearing (S .table) k
-  bearing-same k = λ j. first (λ i. eqb (a .slots i .number j) k) 0 (a .all j)
-
-  pub there-same : (k : ℕ) → there (other S t) k ≡ there S k
-  there-same k = λ j. ltb (bearing-same k j) (a .all j)
-
-  -- a slot that is found by a number is in use
-  pub there-used : (k : ℕ) → 1 ≤ k → there S k ≡ true → 1 ≤ slotIn (S .table) (bearing (S .table) k) .number
-  there-used k h e =
-      let l : bearing (S .table) k < T S = ltb-true _ _ e in
-      let z : slotIn (S .table) (bearing (S .table) k) .number ≡ k = eqb-true _ _ (first-passes (λ i. eqb (slotIn (S .table) i .number) k) 0 (T S) (omega arith)) in
-      omega arith
 
   -- m of a record: the same
   pub m-same : (i : ℕ) → 1 ≤ slotIn (S .table) i .number → mAt (other S t) i ≡ mAt S i

@@ -80,19 +80,19 @@ module _ (S : Store) (f : Fine S) (t : List Slot) (a : Alike S t) where
 
   no-room-same : (k : ℕ) → 1 ≤ k → there S k ≡ true → noRoom (other S t) k ≡ noRoom S k
   no-room-same k h e =
-      ap (λ (b : Bool). not b && not (ltb (shelfEntry S) (R S))) (ap (unawaited (other S t)) (bearing-same S f t a k) ∙ unawaited-same S f t a (bearing (S .table) k) (there-used S f t a k h e))
+      ap (λ (b : Bool). not b && not (ltb (shelfEntry S) (R S))) (ap (unawaited (other S t)) (bearing-same S t a k) ∙ unawaited-same S f t a (bearing (S .table) k) (there-used S k h e))
 
   pub own-same : (c : Call) → firstOf (ownRefusals (other S t) c) ≡ firstOf (ownRefusals S c)
   unfolding ownRefusals
   own-same (Call.opening n) = refl
-  own-same (Call.insert k b) = λ j. firstOf ((eqb k 0, 3) ∷ (not (kindRight b), 4) ∷ (there-same S f t a k j, 5) ∷ (not (ltb (bearing-same S f t a 0 j) (a .all j)), 7) ∷ [])
+  own-same (Call.insert k b) = λ j. firstOf ((eqb k 0, 3) ∷ (not (kindRight b), 4) ∷ (there-same S t a k j, 5) ∷ (not (ltb (bearing-same S t a 0 j) (a .all j)), 7) ∷ [])
   own-same (Call.modify k b) =
       same-first (eqb k 0) (eqb k 0) 3 _ _ refl
       (λ z. same-first (not (kindRight b)) (not (kindRight b)) 4 _ _ refl
-      (λ _. same-first (not (there (other S t) k)) (not (there S k)) 6 _ _ (ap not (there-same S f t a k)) (λ e. ap (λ (x : Bool). firstOf ((x, 8) ∷ [])) (no-room-same k (some-number k z) (not-false _ e)))))
+      (λ _. same-first (not (there (other S t) k)) (not (there S k)) 6 _ _ (ap not (there-same S t a k)) (λ e. ap (λ (x : Bool). firstOf ((x, 8) ∷ [])) (no-room-same k (some-number k z) (not-false _ e)))))
   own-same (Call.delete k) =
       same-first (eqb k 0) (eqb k 0) 3 _ _ refl
-      (λ z. same-first (not (there (other S t) k)) (not (there S k)) 6 _ _ (ap not (there-same S f t a k)) (λ e. ap (λ (x : Bool). firstOf ((x, 8) ∷ [])) (no-room-same k (some-number k z) (not-false _ e))))
+      (λ z. same-first (not (there (other S t) k)) (not (there S k)) 6 _ _ (ap not (there-same S t a k)) (λ e. ap (λ (x : Bool). firstOf ((x, 8) ∷ [])) (no-room-same k (some-number k z) (not-false _ e))))
   own-same Call.begin = refl
   own-same (Call.next u b o) = refl
   own-same (Call.peek u) = refl
@@ -115,7 +115,7 @@ module _ (S : Store) (f : Fine S) (t : List Slot) (a : Alike S t) where
       let z : Slot = slot k b (newStatus (unturned (S .desk .masks))) in
       record {
         table = set t (emptySlot (S .table)) z;
-        is = ap (λ (i : ℕ). store (other S t .desk) (set t i z) (S .shelf)) (bearing-same S f t a 0);
+        is = ap (λ (i : ℕ). store (other S t .desk) (set t i z) (S .shelf)) (bearing-same S t a 0);
         alike = set-alike (emptySlot (S .table)) h (slot k b (newStatus (S .desk .masks))) z (new-alike (S .desk .masks) k k b (f .sized .desk .stable) (f .sized .desk .local) low refl)
             (record { number = hk; body = hb; mask = new-small (unturned (S .desk .masks)); bytes = bb }) (S .shelf);
       }
@@ -185,8 +185,8 @@ module _ (n t r : ℕ) (S : Store) (h : History) (gt gs : List (Option Version))
   change-alike : (k : ℕ) (b : Option (List ℕ)) → Writes b → eqb k 0 ≡ false → not (there S k) ≡ false → Twin (changed S (bearing (S .table) k) b) (changed (other S u) (bearing u k) b)
   change-alike k b w z e =
       let y : there S k ≡ true = not-false _ e in
-      subst (λ (i : ℕ). Twin (changed S (bearing (S .table) k) b) (changed (other S u) i b)) (sym (bearing-same S (q .fine) u a k))
-      (changed-alike S (q .fine) u a (bearing (S .table) k) (ltb-true _ _ y) (there-used S (q .fine) u a k (some-number k z) y) b w)
+      subst (λ (i : ℕ). Twin (changed S (bearing (S .table) k) b) (changed (other S u) i b)) (sym (bearing-same S u a k))
+      (changed-alike S (q .fine) u a (bearing (S .table) k) (ltb-true _ _ y) (there-used S k (some-number k z) y) b w)
 
   pub effect-alike : (c : Call) → Within c → ownRight c ≡ true → Untrue (ownRefusals S c) → CallAlike c (effect S c) (clearing (other S u) c)
   unfolding effect clearing ownRefusals ownRight
