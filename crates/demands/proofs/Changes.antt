@@ -47,7 +47,7 @@ abbrev pub Writes : Option (List ℕ) → Type 0
 Writes none = Unit
 Writes (some b) = (length b ≡ 52) × All Byte b
 
-replaced-sized : (s : Slot) (b : Option (List ℕ)) (m : ℕ) → SlotSized s → Writes b → m < 2 ^ 64 → SlotSized (replaced s b m)
+pub replaced-sized : (s : Slot) (b : Option (List ℕ)) (m : ℕ) → SlotSized s → Writes b → m < 2 ^ 64 → SlotSized (replaced s b m)
 replaced-sized s none m z w h = free-sized
 replaced-sized s (some b) m z w h = record { number = z .number; body = w .0; mask = h; bytes = w .1 }
 
@@ -94,7 +94,7 @@ unfolding allZero
 zeros-zero zero = refl
 zeros-zero (suc n) = zeros-zero n
 
-none-high : (n : ℕ) → from n 0 ≡ 0
+pub none-high : (n : ℕ) → from n 0 ≡ 0
 unfolding from
 none-high n = div-eq-of-lt (pow-pos n)
 

@@ -3,6 +3,7 @@ use mathlib.Core.Path.{_≡_, refl, sym, ap, _∙_, subst}
 use mathlib.Core.Bool.{Bool, true, false, not, false≢true}
 use mathlib.Core.Option.{Option, none, some}
 use mathlib.Core.List.{List}
+use mathlib.Core.Logic.{inl, inr}
 use Prim.Native.Nat.{ℕ, _+_, _^_, _≤_, _<_}
 use native.Mathlib.Omega.{arith}
 use lib.Dec.{eqb, ltb, leb}
@@ -23,6 +24,7 @@ use Rattle.demands.proofs.Marks.{SlotIs, EntryIs, SlotOK, EntryOK, Mark
 use Rattle.demands.proofs.Moves.{Fine, n-most}
 use Rattle.demands.proofs.Past.{Past}
 use Rattle.demands.proofs.Places.{At, at-below, at-standing, standing-at, room-less, full-all}
+use Rattle.demands.proofs.SoundDesk.{Idle, CardSound}
 
 abbrev pub awaitsO : Option Scan → Version → Bool
 awaitsO o v = waitsFor o v
@@ -168,6 +170,17 @@ module _ (n t r : ℕ) (S : Store) (h : History) (gt gs : List (Option Version))
 
   pub busy : (i : ℕ) (s : Scan) → At sc i s → BusyAt S i
   busy i s e = ticket-busy S (q .fine) i (position i s e) (omega (arith, seat i s e .ticket, q .past .scans s (runs-at i s e) .low))
+
+  -- a position that seats no scan
+  pub resting : (i : ℕ) → i < 64 → getD sc i none ≡ none → Idle (S .desk .masks) (cardOf S i) i
+  resting i hi e = go (q .fine .sound .cards i (omega (arith, q .fine .sized .desk .all)))
+    where
+      z : cardOf S i .ticket .0 ≡ 0
+      z = subst (SeatOK (cardOf S i)) e (q .cards i hi)
+
+      go : CardSound (S .desk .masks) (T S) (R S) (S .desk .last) (cardOf S i) i → Idle (S .desk .masks) (cardOf S i) i
+      go (inl x) = x
+      go (inr x) = absurd (omega (arith, z, x .ticket))
 
   -- ---- who awaits a version
 

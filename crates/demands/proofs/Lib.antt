@@ -50,6 +50,11 @@ pub mod HandsOut
 pub mod ShelvesFirstOnly
 pub mod FirstChangeOnly
 pub mod OldStore
+pub mod Alike
+pub mod AlikeLooks
+pub mod AlikeCalls
+pub mod AlikeLives
+pub mod ClearAtBegin
 pub mod DemandOne
 pub mod Packing
 pub mod SameBytes

@@ -78,7 +78,7 @@ module _ (S : Store) (f : Fine S) (p : ℕ) (hp : p < 64) (b : BusyAt S p) where
         moves S f p below (S .desk .last) (turned y (S .desk .masks) p) (moved (cardOf S p) x) t (S .shelf) (omega arith) (f .sized .desk .last) (turned-moved y)
         (inr (moved-busy x (turned y (S .desk .masks) p) (turned-active y) (omega arith) (turned-local y refl))) (moved-sized x (omega arith)) lt refl zt (f .sized .shelf)
 
-  flipped-sized : (s : Slot) → SlotSized s → SlotSized (flipped s p)
+  pub flipped-sized : (s : Slot) → SlotSized s → SlotSized (flipped s p)
   unfolding STATUS-MASK-SCAN-UPD
   flipped-sized s z = record { number = z .number; body = z .body; mask = xor-lt 64 (s .mask) (scanMask p) (z .mask) (scan-small 64 p hp); bytes = z .bytes }
 

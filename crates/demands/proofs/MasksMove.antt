@@ -3,7 +3,6 @@ use mathlib.Core.Path.{_≡_, refl, sym, ap, _∙_, subst}
 use mathlib.Core.Bool.{Bool, true, false, not, _&&_}
 use mathlib.Core.Option.{Option, none, some}
 use mathlib.Core.List.{List, [], _∷_}
-use mathlib.Core.Logic.{inl, inr}
 use Prim.Native.Nat.{ℕ, _+_, _%_, _<_}
 use native.Mathlib.Nat.{div-eq-of-lt}
 use native.Mathlib.Omega.{arith}
@@ -17,16 +16,15 @@ use Rattle.demands.specs.Lives.{Opening, tableSlots, shelfEntries, bytes
 use Rattle.demands.specs.Machine.{Within}
 use Rattle.demands.specs.Masks.{one, noneRuns, walks, waitsFor, walking, walksEnded, masksAfter, MasksMove}
 use Rattle.demands.specs.Placement.{lowest, scanWith, placesAfter}
-use Rattle.rules.specs.Calls.{cardOf, opened}
+use Rattle.rules.specs.Calls.{opened}
 use Rattle.rules.specs.Masks.{bit, off}
-use Rattle.rules.specs.Memory.{Lent, Store, T, R, read}
+use Rattle.rules.specs.Memory.{Lent, Store, T, read}
 use Rattle.rules.specs.Refusals.{Call, Reply, firstOf, refusals, effect, replied, called}
 use Rattle.demands.proofs.Codec.{read-written}
 use Rattle.demands.proofs.DemandOne.{accepted, accepted-fine}
-use Rattle.demands.proofs.Invariant.{SeatOK, aw, Inv, busy, seat, slot-of, entry-of}
+use Rattle.demands.proofs.Invariant.{aw, Inv, busy, seat, resting, slot-of, entry-of}
 use Rattle.demands.proofs.Lives.{Living, all-live, opening-reads, accepted-is, refused-is, well}
 use Rattle.demands.proofs.Positions.{tickets, sitting-is}
-use Rattle.demands.proofs.SoundDesk.{Idle, CardSound}
 use Rattle.demands.proofs.Turns.{Turns, effect-turns, still}
 use Rattle.rules.proofs.Bits.{bit-low}
 
@@ -38,21 +36,11 @@ module _ (n t r : ℕ) (S : Store) (h : History) (gt gs : List (Option Version))
   seated-is : (i : ℕ) → at-i i ≡ getD sc i none
   seated-is i = sitting-is n t r S h gt gs sc q ps is-ps i
 
-  pub resting : (i : ℕ) → i < 64 → getD sc i none ≡ none → Idle (S .desk .masks) (cardOf S i) i
-  resting i hi e = go (q .fine .sound .cards i (omega (arith, q .fine .sized .desk .all)))
-    where
-      z : cardOf S i .ticket .0 ≡ 0
-      z = subst (SeatOK (cardOf S i)) e (q .cards i hi)
-
-      go : CardSound (S .desk .masks) (T S) (R S) (S .desk .last) (cardOf S i) i → Idle (S .desk .masks) (cardOf S i) i
-      go (inl x) = x
-      go (inr x) = absurd (omega (arith, z, x .ticket))
-
   active-is : (i : ℕ) → i < 64 → bit (S .desk .masks .active) i ≡ one (noneRuns (at-i i))
   active-is i hi = go (getD sc i none) refl ∙ ap (λ (o : Option Scan). one (noneRuns o)) (sym (seated-is i))
     where
       go : (o : Option Scan) → getD sc i none ≡ o → bit (S .desk .masks .active) i ≡ one (noneRuns (getD sc i none))
-      go none e = rw e (resting i hi e .active)
+      go none e = rw e (resting n t r S h gt gs sc q i hi e .active)
       go (some s) e = rw e (busy n t r S h gt gs sc q i s e .active)
 
   -- the local active bit is 0 exactly where a scan is in its table walk
@@ -60,7 +48,7 @@ module _ (n t r : ℕ) (S : Store) (h : History) (gt gs : List (Option Version))
   walking-is i hi = go (getD sc i none) refl ∙ ap (walks t) (sym (seated-is i))
     where
       go : (o : Option Scan) → getD sc i none ≡ o → off (S .desk .masks .local) i ≡ walks t (getD sc i none)
-      go none e = rw (e, resting i hi e .local) refl
+      go none e = rw (e, resting n t r S h gt gs sc q i hi e .local) refl
       go (some s) e = sym (busy n t r S h gt gs sc q i s e .local) ∙ ap (λ (x : ℕ). ltb x (T S)) (seat n t r S h gt gs sc q i s e .place) ∙ ap (ltb (s .looks)) (q .isT) ∙ sym (ap (walks t) e)
 
   local-is : (i : ℕ) → i < 64 → bit (S .desk .masks .local) i ≡ one (not (walks t (at-i i)))

@@ -15,11 +15,11 @@ use Rattle.rules.specs.Calls.{first, freePosition}
 use Rattle.rules.specs.Masks.{on}
 use Rattle.rules.specs.Memory.{Store}
 use Rattle.demands.proofs.Firsts.{first-same}
-use Rattle.demands.proofs.Invariant.{Inv, busy, runs-at, n-64}
+use Rattle.demands.proofs.Invariant.{Inv, busy, resting, runs-at, n-64}
 use Rattle.demands.proofs.NextKeeps.{ticket-runs}
 use Rattle.demands.proofs.Past.{ticketOf}
 use Rattle.demands.proofs.Places.{At, getD-map, getD-keep, length-keep, length-places}
-use Rattle.demands.proofs.ReasonsAre.{idle-on, scan-of}
+use Rattle.demands.proofs.ReasonsAre.{scan-of}
 
 abbrev pub tickets : List (Option Scan) → List (Option ℕ)
 tickets sc = map (Option·map ticketOf) sc
@@ -40,7 +40,7 @@ module _ (n t r : ℕ) (S : Store) (h : History) (gt gs : List (Option Version))
       test i k = go (getD sc i none) refl ∙ ap isEmpty (sym (getD-map ticketOf sc i))
         where
           go : (o : Option Scan) → getD sc i none ≡ o → on (S .desk .masks .active) i ≡ isEmpty (Option·map ticketOf (getD sc i none))
-          go none e = eq-eqb _ _ (idle-on n t r S h gt gs sc q i (omega (arith, n-64 n t r S h gt gs sc q)) e) ∙ ap (λ (o : Option Scan). isEmpty (Option·map ticketOf o)) (sym e)
+          go none e = eq-eqb _ _ (resting n t r S h gt gs sc q i (omega (arith, n-64 n t r S h gt gs sc q)) e .active) ∙ ap (λ (o : Option Scan). isEmpty (Option·map ticketOf o)) (sym e)
           go (some s) e = rw (busy n t r S h gt gs sc q i s e .active) refl ∙ ap (λ (o : Option Scan). isEmpty (Option·map ticketOf o)) (sym e)
 
   pub begun-sits : (k : ℕ) (s : Scan) → k ≡ s .ticket → set (tickets sc) (lowestEmpty (tickets sc)) (some k) ≡ tickets (set sc (freePosition S) (some s))

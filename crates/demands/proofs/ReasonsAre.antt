@@ -3,7 +3,6 @@ use mathlib.Core.Path.{_≡_, refl, sym, ap, _∙_, subst}
 use mathlib.Core.Bool.{Bool, true, false, not, or-false}
 use mathlib.Core.Option.{Option, none, some}
 use mathlib.Core.List.{List, [], _∷_}
-use mathlib.Core.Logic.{inl, inr}
 use Prim.Native.Nat.{ℕ, _≤_, _<_}
 use native.Mathlib.Omega.{arith}
 use lib.Dec.{eqb, ltb, leb}
@@ -20,11 +19,10 @@ use Rattle.demands.proofs.Apart.{apart-eq}
 use Rattle.demands.proofs.BeginKeeps.{free-seat}
 use Rattle.demands.proofs.ChangesKeep.{leaves}
 use Rattle.demands.proofs.Firsts.{first-passes, first-lowest}
-use Rattle.demands.proofs.Invariant.{SeatOK, Inv, n-64, table-numbers, shelf-numbers, gt-length, gs-length, full-is, bearer, bears, runs-at, at-runs, position, seat, live-at, at-live, unawaited-is}
+use Rattle.demands.proofs.Invariant.{SeatOK, Inv, n-64, table-numbers, shelf-numbers, gt-length, gs-length, full-is, bearer, bears, runs-at, at-runs, position, seat, live-at, at-live, unawaited-is, resting}
 use Rattle.demands.proofs.Lists.{In, clash, any-in, in-any, any-perm, perm-length, first-only}
 use Rattle.demands.proofs.Past.{ticketOf}
 use Rattle.demands.proofs.Places.{At, room-less, full-all}
-use Rattle.demands.proofs.SoundDesk.{CardSound}
 use Rattle.demands.proofs.Stays.{at-position, ticket-some, ticket-there}
 
 -- ---- lists of tests that come to the same
@@ -84,17 +82,6 @@ module _ (n t r : ℕ) (S : Store) (h : History) (gt gs : List (Option Version))
 
   -- ---- positions
 
-  -- a position that seats no scan has active bit 1
-  pub idle-on : (i : ℕ) → i < 64 → getD sc i none ≡ none → bit (S .desk .masks .active) i ≡ 1
-  idle-on i hi e = go (q .fine .sound .cards i (omega (arith, q .fine .sized .desk .all)))
-    where
-      z : cardOf S i .ticket .0 ≡ 0
-      z = subst (SeatOK (cardOf S i)) e (q .cards i hi)
-
-      go : CardSound (S .desk .masks) (T S) (R S) (S .desk .last) (cardOf S i) i → bit (S .desk .masks .active) i ≡ 1
-      go (inl x) = x .active
-      go (inr x) = absurd (omega (arith, z, x .ticket))
-
   positions-full-is : not (ltb (freePosition S) (S .desk .n)) ≡ leb n (length (h .running))
   positions-full-is = go (ltb (freePosition S) (S .desk .n)) refl
     where
@@ -114,7 +101,7 @@ module _ (n t r : ℕ) (S : Store) (h : History) (gt gs : List (Option Version))
         where
           taken : (j : ℕ) → j < S .desk .n → getD sc j none ≡ none → S .desk .n ≤ freePosition S → ⊥
           taken j w z k =
-              let a : bit (S .desk .masks .active) j ≡ 1 = idle-on j (omega (arith, n-64 n t r S h gt gs sc q, q .isN)) z in
+              let a : bit (S .desk .masks .active) j ≡ 1 = resting n t r S h gt gs sc q j (omega (arith, n-64 n t r S h gt gs sc q, q .isN)) z .active in
               let f : freePosition S ≤ j = first-lowest (λ i. on (S .desk .masks .active) i) 0 (S .desk .n) j (omega arith) (omega arith) (eq-eqb _ _ a) in
               omega arith
 

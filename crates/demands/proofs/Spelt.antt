@@ -18,9 +18,8 @@ use Rattle.rules.specs.Memory.{Lent, T, R, read}
 use Rattle.rules.specs.Refusals.{called}
 use Rattle.rules.specs.Sound.{allZero}
 use Rattle.demands.proofs.DemandThree.{slot-reads, entry-reads}
-use Rattle.demands.proofs.Invariant.{seat}
+use Rattle.demands.proofs.Invariant.{seat, resting}
 use Rattle.demands.proofs.Lives.{Living, all-live}
-use Rattle.demands.proofs.MasksMove.{resting}
 use Rattle.demands.proofs.Places.{At}
 use Rattle.demands.proofs.Positions.{sitting-is}
 use Rattle.demands.proofs.SoundDesk.{CardSound}
@@ -44,7 +43,7 @@ module _ (n t r : ℕ) (l : Lent) (h : History) (p : Places) (v : Living n t r l
       busy s e (inr x) = x .rest
 
       go : (o : Option Scan) → getD (v .seats) i none ≡ o → cardOf (read l) i ≡ cardWith (getD (v .seats) i none)
-      go none e = resting n t r (read l) h (p .table) (p .shelf) (v .seats) (v .keeps) (p .positions) (v .sits) i hi e .none ∙ ap cardWith (sym e)
+      go none e = resting n t r (read l) h (p .table) (p .shelf) (v .seats) (v .keeps) i hi e .none ∙ ap cardWith (sym e)
       go (some s) e =
           let c = seat n t r (read l) h (p .table) (p .shelf) (v .seats) (v .keeps) i s e in
           let z = busy s e (v .keeps .fine .sound .cards i (omega (arith, v .keeps .fine .sized .desk .all))) in

@@ -3,7 +3,6 @@ use mathlib.Core.Path.{_≡_, refl, sym, ap, _∙_, subst}
 use mathlib.Core.Bool.{Bool, true, false, not, _&&_, cond, false≢true}
 use mathlib.Core.Option.{Option, none, some, Option·some-injective}
 use mathlib.Core.List.{List, [], _++_, map}
-use mathlib.Core.Logic.{inl, inr}
 use Prim.Native.Nat.{ℕ, suc, _+_, _≤_, _<_}
 use native.Mathlib.Omega.{arith}
 use lib.Dec.{eqb, ltb}
@@ -18,19 +17,18 @@ use Rattle.demands.specs.Placement.{IfThereIsOne, TakesEmpty, isEmpty, l
 use Rattle.rules.specs.Answers.{Answer}
 use Rattle.rules.specs.Calls.{first, slotIn, bearing, emptySlot, freePosition, positionOf, unawaited, changed, given}
 use Rattle.rules.specs.Masks.{bit, on}
-use Rattle.rules.specs.Memory.{Slot, idle, Store, T, R}
+use Rattle.rules.specs.Memory.{Slot, Store, R}
 use Rattle.rules.specs.Next.{walk}
 use Rattle.rules.specs.Refusals.{Call, ownRight, there, noRoom, ownRefusals, effect}
 use Rattle.demands.proofs.BeginKeeps.{free-seat, begin-keeps}
 use Rattle.demands.proofs.ChangesKeep.{insert-keeps, modify-keeps, delete-keeps}
 use Rattle.demands.proofs.DemandOne.{unrefused}
 use Rattle.demands.proofs.Firsts.{Untrue, first-passes, first-lowest}
-use Rattle.demands.proofs.Invariant.{NumberOK, Inv, n-64, table-numbers, shelf-numbers, gt-length, gs-length, unawaited-is, runs-at}
+use Rattle.demands.proofs.Invariant.{NumberOK, Inv, n-64, table-numbers, shelf-numbers, gt-length, gs-length, unawaited-is, runs-at, resting}
 use Rattle.demands.proofs.NextKeeps.{next-keeps}
 use Rattle.demands.proofs.Places.{At}
 use Rattle.demands.proofs.Positions.{tickets, begun-sits, next-sits}
 use Rattle.demands.proofs.ReasonsAre.{version-of, there-is, scan-at, scan-of}
-use Rattle.demands.proofs.SoundDesk.{CardSound}
 
 -- ---- the lowest empty place
 
@@ -197,7 +195,8 @@ module _ (n t r : ℕ) (S : Store) (h : History) (gt gs : List (Option Version))
       let p : freePosition S < S .desk .n = ltb-true _ _ (not-false _ (u .0)) in
       let a : bit (S .desk .masks .active) (freePosition S) ≡ 1 = eqb-true _ _ (first-passes (λ i. on (S .desk .masks .active) i) 0 (S .desk .n) (omega arith)) in
       let e : S .desk .last + 1 ≡ suc (h .given) = omega (arith, q .last) in
-      let i = begin-keeps n t r S h gt gs sc q (freePosition S) (omega (arith, q .isN)) (free-seat n t r S h gt gs sc q (freePosition S) a) (resting (freePosition S) (omega (arith, n-64 n t r S h gt gs sc q, q .isN)) a)
+      let f = free-seat n t r S h gt gs sc q (freePosition S) a in
+      let i = begin-keeps n t r S h gt gs sc q (freePosition S) (omega (arith, q .isN)) f (resting n t r S h gt gs sc q (freePosition S) (omega (arith, n-64 n t r S h gt gs sc q, q .isN)) f .local)
       (less (S .desk .last) (h .given) (q .last) (q .fine .sized .desk .last) (eqb-false _ _ (u .1 .0))) in
       record {
         seats = set sc (freePosition S) (some (scan (suc (h .given)) (h .live) [] 0));
@@ -211,13 +210,6 @@ module _ (n t r : ℕ) (S : Store) (h : History) (gt gs : List (Option Version))
     where
       less : (x y : ℕ) → x ≡ y → x < 4294967296 → (x ≡ 4294967295 → ⊥) → y < 4294967295
       less x y e l d = omega arith
-
-      resting : (p : ℕ) → p < 64 → bit (S .desk .masks .active) p ≡ 1 → bit (S .desk .masks .local) p ≡ 1
-      resting p hp a = go (q .fine .sound .cards p (omega (arith, q .fine .sized .desk .all)))
-        where
-          go : CardSound (S .desk .masks) (T S) (R S) (S .desk .last) (getD (S .desk .cards) p idle) p → bit (S .desk .masks .local) p ≡ 1
-          go (inl x) = x .local
-          go (inr x) = absurd (omega (arith, x .active))
 
   next-steps : (k b : ℕ) (o : List ℕ) → Untrue (ownRefusals S (Call.next k b o)) → Stepped (Call.next k b o) (walk S (positionOf S k) b 0 o .answer) (walk S (positionOf S k) b 0 o .after) (walk S (positionOf S k) b 0 o .out)
   unfolding ownRefusals heard moves Fulfils

@@ -9,20 +9,20 @@ use Rattle.rules.specs.Calls.{cardOf}
 use Rattle.rules.specs.Memory.{Slot, Store, version}
 use Rattle.rules.specs.Next.{Told, told, look, atEnd, finish, walk}
 
-walk-stop : (S : Store) (p b l : ℕ) (o : List ℕ) → atEnd S p ≡ true → walk S p b l o ≡ told (finished l b (cardOf S p .handed)) (finish S p) o
+pub walk-stop : (S : Store) (p b l : ℕ) (o : List ℕ) → atEnd S p ≡ true → walk S p b l o ≡ told (finished l b (cardOf S p .handed)) (finish S p) o
 unfolding walk
 walk-stop S p zero l o e = rw (e, walk) refl
 walk-stop S p (suc b) l o e = rw (e, walk) refl
 
-walk-rest : (S : Store) (p l : ℕ) (o : List ℕ) → atEnd S p ≡ false → walk S p zero l o ≡ told (paused l) S o
+pub walk-rest : (S : Store) (p l : ℕ) (o : List ℕ) → atEnd S p ≡ false → walk S p zero l o ≡ told (paused l) S o
 unfolding walk
 walk-rest S p l o e = rw (e, walk) refl
 
-walkOn : Store → ℕ → ℕ → ℕ → List ℕ → Option Slot → Told
+unfoldable pub walkOn : Store → ℕ → ℕ → ℕ → List ℕ → Option Slot → Told
 walkOn S p b l o none = walk S p b (suc l) o
 walkOn S p b l o (some v) = told (inHand (suc l) b) S (version v)
 
-walk-on : (S : Store) (p b l : ℕ) (o : List ℕ) → atEnd S p ≡ false → walk S p (suc b) l o ≡ walkOn (look S p .0) p b l o (look S p .1)
+pub walk-on : (S : Store) (p b l : ℕ) (o : List ℕ) → atEnd S p ≡ false → walk S p (suc b) l o ≡ walkOn (look S p .0) p b l o (look S p .1)
 unfolding walk walkOn
 walk-on S p b l o e = rw (e, walk) (go (look S p .1))
   where

@@ -16,3 +16,4 @@ pub mod Page
 pub mod Idle
 pub mod FirstChangeOnly
 pub mod OldStore
+pub mod ClearAtBegin
