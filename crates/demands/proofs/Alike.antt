@@ -21,6 +21,7 @@ use Rattle.demands.proofs.Firsts.{first-passes}
 use Rattle.demands.proofs.Moves.{Fine}
 use Rattle.demands.proofs.Sizes.{SlotSized, Sized}
 use Rattle.demands.proofs.SoundDesk.{CardSound, Sound}
+use Rattle.demands.proofs.Stays.{some-number}
 
 -- the masks of the other store: its stable bits never turn
 abbrev pub unturned : Masks → Masks
@@ -50,12 +51,6 @@ pub record Twin (S Z : Store) : Type 0 where
   pub alike : Alike S table
 
 -- ---- a slot, while the masks move
-
-pub some-number : (k : ℕ) → eqb k 0 ≡ false → 1 ≤ k
-some-number k e = go k (eqb-false k 0 e)
-  where
-    go : (k : ℕ) → (k ≡ 0 → ⊥) → 1 ≤ k
-    go k d = omega arith
 
 pub in-use-some : (s : Slot) → inUse s ≡ true → 1 ≤ s .number
 in-use-some s e = some-number (s .number) (not-true _ e)

@@ -24,7 +24,7 @@ use Rattle.rules.specs.Next.{Told}
 use Rattle.rules.specs.Refusals.{Call, kindRight, ownRight, firstOf, there, noRoom, ownRefusals, effect}
 use Rattle.rules.proofs.Bits.{bit-low, bit-zero, bit-xor}
 use Rattle.rules.proofs.TableOne.{new-passed, clear-own, clear-other}
-use Rattle.demands.proofs.Alike.{unturned, other, SlotAlike, Alike, Twin, some-number, in-use-some, free-alike, bearing-same, there-same, there-used, unawaited-same, present-same}
+use Rattle.demands.proofs.Alike.{unturned, other, SlotAlike, Alike, Twin, in-use-some, free-alike, bearing-same, there-same, there-used, unawaited-same, present-same}
 use Rattle.demands.proofs.AlikeLooks.{walk-alike}
 use Rattle.demands.proofs.BeginKeeps.{free-seat}
 use Rattle.demands.proofs.Changes.{Writes, new-small, replaced-sized}
@@ -35,7 +35,7 @@ use Rattle.demands.proofs.Marks.{SlotOK, set-both}
 use Rattle.demands.proofs.Moves.{Fine, n-most}
 use Rattle.demands.proofs.ReasonsAre.{same-first}
 use Rattle.demands.proofs.Sizes.{SlotSized, set-all}
-use Rattle.demands.proofs.Stays.{at-position, ticket-some, ticket-there}
+use Rattle.demands.proofs.Stays.{some-number, at-position, ticket-some, ticket-there}
 
 -- ---- one slot
 

@@ -58,4 +58,5 @@ pub mod ClearAtBegin
 pub mod DemandOne
 pub mod Packing
 pub mod SameBytes
+pub mod PeekIsNext
 pub mod Ours

@@ -1,7 +1,12 @@
 -- The calls of document 01, on lent bytes, meet everything that is demanded.
+use mathlib.Core.Path.{_≡_}
+use mathlib.Core.List.{List}
+use Rattle.demands.specs.Lists.{All}
+use Rattle.demands.specs.Lives.{Opening, bytesAfter}
+use Rattle.demands.specs.Machine.{Machine, Within}
 use Rattle.demands.specs.Page.{Meets}
 use Rattle.demands.specs.Placement.{lowest}
-use Rattle.rules.specs.Refusals.{called}
+use Rattle.rules.specs.Refusals.{Call, called}
 use Rattle.demands.proofs.DemandOne.{demand-1}
 use Rattle.demands.proofs.DemandThree.{demand-3}
 use Rattle.demands.proofs.DemandTwo.{demand-2}
@@ -10,6 +15,7 @@ use Rattle.demands.proofs.MasksMove.{masks-move}
 use Rattle.demands.proofs.NoSmaller.{ours-no-smaller}
 use Rattle.demands.proofs.Refused.{room-of-ours}
 use Rattle.demands.proofs.RuleOfNext.{rule-of-next}
+use Rattle.demands.proofs.SameBytes.{same-bytes}
 use Rattle.demands.proofs.Spelt.{spelt}
 use Rattle.demands.proofs.Steps.{lowest-takes}
 use Rattle.demands.proofs.TableOne.{table-one}
@@ -29,3 +35,7 @@ ours =
       room = room-of-ours;
       tight = ours-no-smaller;
     }
+
+-- and whatever machine meets it leaves the bytes that they leave
+pub only-ours : (M : Machine) → Meets M lowest → (o : Opening) (cs : List Call) → All Within cs → bytesAfter M o cs ≡ bytesAfter called o cs
+only-ours M m o cs ws = same-bytes called M lowest ours m o cs ws

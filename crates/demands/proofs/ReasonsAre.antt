@@ -23,7 +23,7 @@ use Rattle.demands.proofs.Invariant.{SeatOK, Inv, n-64, table-numbers, 
 use Rattle.demands.proofs.Lists.{In, clash, any-in, in-any, any-perm, perm-length, first-only}
 use Rattle.demands.proofs.Past.{ticketOf}
 use Rattle.demands.proofs.Places.{At, room-less, full-all}
-use Rattle.demands.proofs.Stays.{at-position, ticket-some, ticket-there}
+use Rattle.demands.proofs.Stays.{some-number, at-position, ticket-some, ticket-there}
 
 -- ---- lists of tests that come to the same
 
@@ -146,22 +146,16 @@ module _ (n t r : ℕ) (S : Store) (h : History) (gt gs : List (Option Version))
 
   -- ---- call by call
 
-  low-of : (k : ℕ) → eqb k 0 ≡ false → 1 ≤ k
-  low-of k e = go k (eqb-false k 0 e)
-    where
-      go : (k : ℕ) → (k ≡ 0 → ⊥) → 1 ≤ k
-      go k d = omega arith
-
   pub reasons-are : (c : Call) → firstOf ((not (ownRight c), 1) ∷ ownRefusals S c) ≡ reason n t r h c
   unfolding reasons ownRefusals ownRight
   reasons-are (Call.opening x) = skip-first false 1 _ refl
   reasons-are (Call.insert k b) =
-      same-first _ _ 1 _ _ refl (λ _. same-first _ _ 3 _ _ refl (λ z. same-first _ _ 4 _ _ refl (λ _. same-first _ _ 5 _ _ (there-is k (low-of k z)) (λ _. same-first _ _ 7 _ _ table-full-is (λ _. refl)))))
+      same-first _ _ 1 _ _ refl (λ _. same-first _ _ 3 _ _ refl (λ z. same-first _ _ 4 _ _ refl (λ _. same-first _ _ 5 _ _ (there-is k (some-number k z)) (λ _. same-first _ _ 7 _ _ table-full-is (λ _. refl)))))
   reasons-are (Call.modify k b) =
-      same-first _ _ 1 _ _ refl (λ _. same-first _ _ 3 _ _ refl (λ z. same-first _ _ 4 _ _ refl (λ _. same-first _ _ 6 _ _ (ap not (there-is k (low-of k z)))
-      (λ x. same-first _ _ 8 _ _ (no-room-is k (low-of k z) (there-is k (low-of k z) ∙ not-false _ x)) (λ _. refl)))))
+      same-first _ _ 1 _ _ refl (λ _. same-first _ _ 3 _ _ refl (λ z. same-first _ _ 4 _ _ refl (λ _. same-first _ _ 6 _ _ (ap not (there-is k (some-number k z)))
+      (λ x. same-first _ _ 8 _ _ (no-room-is k (some-number k z) (there-is k (some-number k z) ∙ not-false _ x)) (λ _. refl)))))
   reasons-are (Call.delete k) =
-      skip-first false 1 _ refl ∙ same-first _ _ 3 _ _ refl (λ z. same-first _ _ 6 _ _ (ap not (there-is k (low-of k z))) (λ x. same-first _ _ 8 _ _ (no-room-is k (low-of k z) (there-is k (low-of k z) ∙ not-false _ x)) (λ _. refl)))
+      skip-first false 1 _ refl ∙ same-first _ _ 3 _ _ refl (λ z. same-first _ _ 6 _ _ (ap not (there-is k (some-number k z))) (λ x. same-first _ _ 8 _ _ (no-room-is k (some-number k z) (there-is k (some-number k z) ∙ not-false _ x)) (λ _. refl)))
   reasons-are Call.begin = skip-first false 1 _ refl ∙ same-first _ _ 9 _ _ positions-full-is (λ _. same-first _ _ 11 _ _ tickets-spent-is (λ _. refl))
   reasons-are (Call.next k b o) = same-first _ _ 1 _ _ refl (λ _. same-first _ _ 10 _ _ (no-scan-is k) (λ _. refl))
   reasons-are (Call.peek k) = skip-first false 1 _ refl ∙ same-first _ _ 10 _ _ (no-scan-is k) (λ _. refl)

@@ -25,15 +25,18 @@ pub or-false : (a b : Bool) → a || b ≡ false → (a ≡ false) × (b ≡ fal
 or-false true b e = absurd (false≢true (sym e))
 or-false false b e = (refl, e)
 
+pub some-number : (k : ℕ) → eqb k 0 ≡ false → 1 ≤ k
+some-number k e = go k (eqb-false k 0 e)
+  where
+    go : (k : ℕ) → (k ≡ 0 → ⊥) → 1 ≤ k
+    go k d = omega arith
+
 module _ (S : Store) (t : ℕ) (h : noScan S t ≡ false) where
   pub at-position : positionOf S t < 64
   at-position = ltb-true _ _ (not-false _ (or-false (eqb t 0) (not (ltb (positionOf S t) 64)) h .1))
 
   pub ticket-some : 1 ≤ t
-  ticket-some = go t (eqb-false t 0 (or-false (eqb t 0) (not (ltb (positionOf S t) 64)) h .0))
-    where
-      go : (t : ℕ) → (t ≡ 0 → ⊥) → 1 ≤ t
-      go t d = omega arith
+  ticket-some = some-number t (or-false (eqb t 0) (not (ltb (positionOf S t) 64)) h .0)
 
   pub ticket-there : cardOf S (positionOf S t) .ticket .0 ≡ t
   ticket-there = eqb-true _ _ (first-passes (λ i. eqb (cardOf S i .ticket .0) t) 0 64 at-position)

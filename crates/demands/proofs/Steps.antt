@@ -29,6 +29,7 @@ use Rattle.demands.proofs.NextKeeps.{next-keeps}
 use Rattle.demands.proofs.Places.{At}
 use Rattle.demands.proofs.Positions.{tickets, begun-sits, next-sits}
 use Rattle.demands.proofs.ReasonsAre.{version-of, there-is, scan-at, scan-of}
+use Rattle.demands.proofs.Stays.{some-number}
 
 -- ---- the lowest empty place
 
@@ -93,12 +94,6 @@ module _ (n t r : ℕ) (S : Store) (h : History) (gt gs : List (Option Version))
     pub fulfils : Fulfils t r h c a out
     pub looked : Looked c a out
 
-  low-of : (k : ℕ) → eqb k 0 ≡ false → 1 ≤ k
-  low-of k e = go k (eqb-false k 0 e)
-    where
-      go : (k : ℕ) → (k ≡ 0 → ⊥) → 1 ≤ k
-      go k d = omega arith
-
   -- ---- modify and delete
 
   module _ (k : ℕ) (low : 1 ≤ k) (is : there S k ≡ true) (room : noRoom S k ≡ false) where
@@ -132,7 +127,7 @@ module _ (n t r : ℕ) (S : Store) (h : History) (gt gs : List (Option Version))
       → Stepped (Call.modify k b) Answer.done (changed S (bearing (S .table) k) (some b)) []
   unfolding ownRight ownRefusals heard moves Fulfils
   modify-steps k b wi own u =
-      let low = low-of k (u .0) in
+      let low = some-number k (u .0) in
       let is = not-false _ (u .1 .1 .0) in
       let v = w k low is (u .1 .1 .1 .0) in
       let e : v .0 .number ≡ k = v .2 in
@@ -152,7 +147,7 @@ module _ (n t r : ℕ) (S : Store) (h : History) (gt gs : List (Option Version))
   delete-steps : (k : ℕ) → Untrue (ownRefusals S (Call.delete k)) → Stepped (Call.delete k) Answer.done (changed S (bearing (S .table) k) none) []
   unfolding ownRefusals heard moves Fulfils
   delete-steps k u =
-      let low = low-of k (u .0) in
+      let low = some-number k (u .0) in
       let is = not-false _ (u .1 .0) in
       let v = w k low is (u .1 .1 .0) in
       let e : v .0 .number ≡ k = v .2 in
@@ -175,7 +170,7 @@ module _ (n t r : ℕ) (S : Store) (h : History) (gt gs : List (Option Version))
       → Stepped (Call.insert k b) Answer.done (Rattle.rules.specs.Calls.inserted S k b) []
   unfolding ownRight ownRefusals heard moves Fulfils
   insert-steps k b wi own u =
-      let low = low-of k (u .0) in
+      let low = some-number k (u .0) in
       let a : isLive h k ≡ false = sym (there-is n t r S h gt gs sc q k low) ∙ u .1 .1 .0 in
       let i = insert-keeps n t r S h gt gs sc q k b low (wi .0) (eqb-true _ _ own) (wi .1) a (ltb-true _ _ (not-false _ (u .1 .1 .1 .0))) in
       record {

@@ -5,16 +5,17 @@ use mathlib.Core.Bool.{cond}
 use mathlib.Core.Option.{Option, none, some}
 use mathlib.Core.List.{List, []}
 use mathlib.Core.Logic.{_⊎_}
-use Prim.Native.Nat.{ℕ, _+_, _-_}
+use Prim.Native.Nat.{ℕ, _+_, _-_, _≤_}
 use lib.Dec.{ltb}
 use lib.ListN.{length}
 use Rattle.demands.specs.History.{Version, Scan, History, needed, waiting, scanOf}
 use Rattle.demands.specs.Lists.{All}
 use Rattle.demands.specs.Lives.{Opening, tableSlots, shelfEntries, bytesAfter, past}
-use Rattle.demands.specs.Machine.{Machine, Within}
+use Rattle.demands.specs.Machine.{Machine, LentBytes, Within, slots}
 use Rattle.demands.specs.Placement.{Placing, placesAfter, row, Passes, Finds, LooksRight}
 use Rattle.demands.specs.Reasons.{reason}
 use Rattle.rules.specs.Answers.{Answer}
+use Rattle.rules.specs.Memory.{Lent}
 use Rattle.rules.specs.Refusals.{Call}
 
 -- "the record that next with unbounded budget would hand out. In all other cases the part is empty."
@@ -47,3 +48,20 @@ pub record RuleOfNext (M : Machine) (P : Placing) : Type 0 where
   pub tallies : (o : Opening) (cs : List Call) → All Within cs → answer M o cs Call.tally ≡ Answer.counted (length (past M o cs .live)) (length (needed (past M o cs)))
   pub owes : (o : Opening) (cs : List Call) → All Within cs → (t : ℕ) → Within (Call.owed t) → Granted M o cs (Call.owed t)
       → (s : Scan) → scanOf (past M o cs) t ≡ some s → answer M o cs (Call.owed t) ≡ Answer.owing (stillToCome (tableSlots o) (past M o cs) s)
+
+-- what next hands out: the record in hand, or nothing
+abbrev pub brought : Answer → List ℕ → List ℕ
+brought Answer.done o = []
+brought (Answer.begun t) o = []
+brought (Answer.inHand looks left) o = o
+brought (Answer.paused looks) o = []
+brought (Answer.finished looks left handed) o = []
+brought (Answer.counted r e) o = []
+brought (Answer.owing c) o = []
+brought (Answer.part bs) o = []
+brought (Answer.refused k) o = []
+
+-- peek is "the record that next with unbounded budget would hand out", on any lent bytes: no budget over T + R is spent
+unfoldable pub PeekIsNext : Machine → Type 0
+PeekIsNext M =
+    (l : Lent) → LentBytes l → (t b : ℕ) (o : List ℕ) → length o ≡ 56 → slots (l .table) + slots (l .shelf) ≤ b → M l (Call.peek t) .answer ≡ Answer.part (brought (M l (Call.next t b o) .answer) (M l (Call.next t b o) .out))
