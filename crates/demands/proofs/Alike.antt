@@ -16,8 +16,8 @@ use Rattle.rules.specs.Memory.{Slot, slot, free, desk, Store, store, T, R}
 use Rattle.rules.specs.Refusals.{there}
 use Rattle.rules.proofs.Bits.{bit-low, bit-zero, bit-xor, bit-ext}
 use Rattle.rules.proofs.TableOne.{m-bit}
+use Rattle.rules.proofs.First.{first-found}
 use Rattle.demands.proofs.Changes.{m-small, none-high}
-use Rattle.demands.proofs.Firsts.{first-passes}
 use Rattle.demands.proofs.Moves.{Fine}
 use Rattle.demands.proofs.Sizes.{SlotSized, Sized}
 use Rattle.demands.proofs.SoundDesk.{CardSound, Sound}
@@ -74,7 +74,7 @@ free-alike m = record { number = refl; body = refl; empty = λ _. refl; bits = �
 pub there-used : (S : Store) (k : ℕ) → 1 ≤ k → there S k ≡ true → 1 ≤ slotIn (S .table) (bearing (S .table) k) .number
 there-used S k h e =
     let l : bearing (S .table) k < T S = ltb-true _ _ e in
-    let z : slotIn (S .table) (bearing (S .table) k) .number ≡ k = eqb-true _ _ (first-passes (λ i. eqb (slotIn (S .table) i .number) k) 0 (T S) (omega arith)) in
+    let z : slotIn (S .table) (bearing (S .table) k) .number ≡ k = eqb-true _ _ (first-found (λ i. eqb (slotIn (S .table) i .number) k) 0 (T S) (omega arith)) in
     omega arith
 
 module _ (S : Store) (t : List Slot) (a : Alike S t) where

@@ -24,16 +24,16 @@ use Rattle.rules.specs.Next.{Told}
 use Rattle.rules.specs.Refusals.{Call, kindRight, ownRight, firstOf, there, noRoom, ownRefusals, effect}
 use Rattle.rules.proofs.Bits.{bit-low, bit-zero, bit-xor}
 use Rattle.rules.proofs.TableOne.{new-passed, clear-own, clear-other}
+use Rattle.rules.proofs.First.{first-found}
+use Rattle.demands.proofs.FirstOf.{Untrue, same-first}
 use Rattle.demands.proofs.Alike.{unturned, other, SlotAlike, Alike, Twin, in-use-some, free-alike, bearing-same, there-same, there-used, unawaited-same, present-same}
 use Rattle.demands.proofs.AlikeLooks.{walk-alike}
 use Rattle.demands.proofs.BeginKeeps.{free-seat}
 use Rattle.demands.proofs.Changes.{Writes, new-small, replaced-sized}
-use Rattle.demands.proofs.Firsts.{Untrue, first-passes}
 use Rattle.demands.proofs.Invariant.{Inv, aw, placeIn, resting}
 use Rattle.demands.proofs.Looks.{ticket-busy}
 use Rattle.demands.proofs.Marks.{SlotOK, set-both}
 use Rattle.demands.proofs.Moves.{Fine, n-most}
-use Rattle.demands.proofs.ReasonsAre.{same-first}
 use Rattle.demands.proofs.Sizes.{SlotSized, set-all}
 use Rattle.demands.proofs.Stays.{some-number, at-position, ticket-some, ticket-there}
 
@@ -198,7 +198,7 @@ module _ (n t r : ℕ) (S : Store) (h : History) (gt gs : List (Option Version))
   effect-alike Call.begin w own e =
       let p : freePosition S < S .desk .n = ltb-true _ _ (not-false _ (e .0)) in
       let hp : freePosition S < 64 = omega (arith, n-most S (q .fine)) in
-      let x : bit (S .desk .masks .active) (freePosition S) ≡ 1 = eqb-true _ _ (first-passes (λ i. on (S .desk .masks .active) i) 0 (S .desk .n) (omega arith)) in
+      let x : bit (S .desk .masks .active) (freePosition S) ≡ 1 = eqb-true _ _ (first-found (λ i. on (S .desk .masks .active) i) 0 (S .desk .n) (omega arith)) in
       record { says = (refl, refl); after = begun-alike S (q .fine) u a (freePosition S) hp (free-stable (freePosition S) hp x) }
   effect-alike (Call.next k b o) w own e =
       let p : positionOf S k < 64 = at-position S k (e .0) in

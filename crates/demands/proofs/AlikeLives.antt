@@ -20,6 +20,7 @@ use Rattle.rules.specs.Memory.{Lent, free, Store, read, written}
 use Rattle.rules.specs.Next.{Told}
 use Rattle.rules.specs.Refusals.{Call, Reply, lengthsRight, ownRight, allRight, firstOf, ownRefusals, looksAtDesk, refusals, effect, writtenAll, replied, called}
 use Rattle.rules.specs.Sound.{sound}
+use Rattle.demands.proofs.FirstOf.{same-first, skip-first}
 use Rattle.demands.proofs.Alike.{other, SlotAlike, Twin, free-alike, other-sized, other-sound}
 use Rattle.demands.proofs.AlikeCalls.{Likewise, own-same, effect-alike}
 use Rattle.demands.proofs.Codec.{read-written}
@@ -27,7 +28,6 @@ use Rattle.demands.proofs.DemandOne.{accepted, accepted-fine}
 use Rattle.demands.proofs.DemandTwo.{demand-2}
 use Rattle.demands.proofs.Lives.{Living, well, accepted-is, refused-is, opening-reads, refusals-are, call-lives, all-live}
 use Rattle.demands.proofs.Moves.{Fine}
-use Rattle.demands.proofs.ReasonsAre.{same-first, skip-first}
 use Rattle.demands.proofs.Sizes.{SlotSized, Sized, replicate-all, free-sized}
 use Rattle.demands.proofs.SoundDesk.{of-sound}
 use Rattle.demands.proofs.Spelling.{length-slots, length-desk}

@@ -24,7 +24,7 @@ use Rattle.demands.proofs.Looks.{BusyAt, flipped-sized, look-fine, look
 use Rattle.demands.proofs.Marks.{set-both}
 use Rattle.demands.proofs.Moves.{Fine}
 use Rattle.demands.proofs.Sizes.{SlotSized, set-all}
-use Rattle.demands.proofs.Walks.{walkOn, walk-stop, walk-rest, walk-on}
+use Rattle.rules.proofs.Walk.{walkOn, walk-stop, walk-rest, walk-on}
 
 -- ---- masks
 

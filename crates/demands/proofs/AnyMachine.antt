@@ -17,8 +17,8 @@ use Rattle.demands.specs.Machine.{Machine, Within}
 use Rattle.demands.specs.Reasons.{reasons, reason}
 use Rattle.rules.specs.Answers.{Answer}
 use Rattle.rules.specs.Refusals.{Call}
+use Rattle.demands.proofs.FirstOf.{Untrue, none-holds}
 use Rattle.demands.proofs.Apart.{apart-eq}
-use Rattle.demands.proofs.Firsts.{Untrue, none-holds}
 use Rattle.demands.proofs.Lists.{In, those-in, map-in}
 use Rattle.demands.proofs.Lives.{refused-heard}
 use Rattle.demands.proofs.Past.{Past, ticketOf, inserted-past, modified-past, deleted-past, begins-past, passed-past, handed-past, finishes-past, opened-past}

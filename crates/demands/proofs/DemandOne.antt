@@ -14,15 +14,15 @@ use Rattle.rules.specs.Calls.{positionOf}
 use Rattle.rules.specs.Memory.{Lent, Store, T, R, read, written}
 use Rattle.rules.specs.Refusals.{Call, Reply, ownRight, allRight, firstOf, ownRefusals, looksAtDesk, refusals, effect, outOf, writtenAll, replied, called}
 use Rattle.rules.specs.Sound.{sound}
+use Rattle.demands.proofs.FirstOf.{Untrue, none-holds}
 use Rattle.demands.proofs.Changes.{opened-fine}
 use Rattle.demands.proofs.Codec.{read-written}
-use Rattle.demands.proofs.Firsts.{Untrue, none-holds}
 use Rattle.demands.proofs.Moves.{Fine}
 use Rattle.demands.proofs.Sizes.{Sized}
 use Rattle.demands.proofs.SoundDesk.{to-sound, of-sound}
 use Rattle.demands.proofs.Spelling.{to-lengths, count-read, read-sized, length-slots, length-desk, written-bytes}
 use Rattle.demands.proofs.Stays.{Kept, effect-fine, effect-kept}
-use Rattle.demands.proofs.Walks.{walk-ind}
+use Rattle.rules.proofs.Walk.{walk-ind}
 
 -- ---- what is known of bytes that no line refuses
 

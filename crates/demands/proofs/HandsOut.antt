@@ -9,7 +9,7 @@ use Rattle.rules.specs.Calls.{slotIn, cardOf, positionOf}
 use Rattle.rules.specs.Memory.{Lent, Slot, Store, T, read, version}
 use Rattle.rules.specs.Next.{inTable, tableLook, onShelf, shelfLook, lookAt, look, walk}
 use Rattle.rules.specs.Refusals.{Call, firstOf, refusals, effect, outOf, replied, called}
-use Rattle.demands.proofs.Walks.{walk-ind}
+use Rattle.rules.proofs.Walk.{walk-ind}
 
 module _ (P : List ℕ → Type 0) where
   -- P of everything that stands there

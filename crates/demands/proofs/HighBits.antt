@@ -1,12 +1,12 @@
 -- The bits from N up: what each move of a position below N leaves of them.
-use mathlib.Core.Path.{_≡_, refl, sym, ap, _∙_}
+use mathlib.Core.Path.{_≡_, sym, ap, _∙_}
 use Prim.Native.Nat.{ℕ, _+_, _-_, _/_, _%_, _^_, _≤_, _<_}
 use native.Mathlib.Nat.{div-eq-of-lt}
 use native.Mathlib.Omega.{arith}
-use lib.Pow.{pow-pos, pow-lt, shr-shr}
+use lib.Pow.{pow-lt, shr-shr}
 use lib.Bits.{bitOr, bitXor, and-shr, or-shr, xor-shr, xor-zero-l, xor-zero-r, or-zero-r, and-self}
 use Rattle.rules.specs.Masks.{bit, ones, NOT, from, scanMask, cleared}
-use Rattle.rules.proofs.Bits.{not-xor, bit-ones, scan-small}
+use Rattle.rules.proofs.Bits.{not-xor, bit-ones, scan-small, bit-zero}
 
 module _ (n p x : ℕ) (h : p < n) where
   scan-from : scanMask p / 2 ^ n ≡ 0
@@ -38,9 +38,5 @@ module _ (n i x : ℕ) (h : n ≤ i) where
 pub high-one : (n i x : ℕ) → n ≤ i → i < 64 → from n x ≡ from n (ones 64) → bit x i ≡ 1
 high-one n i x h k e = bit-from n i x h ∙ ap (λ (y : ℕ). bit y (i - n)) e ∙ sym (bit-from n i (ones 64) h) ∙ bit-ones 64 i k
 
-zero-bit : (j : ℕ) → bit 0 j ≡ 0
-unfolding bit
-zero-bit j = rw (div-eq-of-lt (pow-pos j)) refl
-
 pub high-zero : (n i x : ℕ) → n ≤ i → from n x ≡ 0 → bit x i ≡ 0
-high-zero n i x h e = bit-from n i x h ∙ ap (λ (y : ℕ). bit y (i - n)) e ∙ zero-bit (i - n)
+high-zero n i x h e = bit-from n i x h ∙ ap (λ (y : ℕ). bit y (i - n)) e ∙ bit-zero (i - n)

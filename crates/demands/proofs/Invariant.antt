@@ -16,8 +16,8 @@ use Rattle.rules.specs.declared.Card.{Card}
 use Rattle.rules.specs.Calls.{slotIn, bearing, emptySlot, cardOf, mAt, unawaited}
 use Rattle.rules.specs.Masks.{bit}
 use Rattle.rules.specs.Memory.{Slot, Store, T, R}
+use Rattle.rules.proofs.First.{first-found, first-lowest}
 use Rattle.demands.proofs.Changes.{m-small}
-use Rattle.demands.proofs.Firsts.{first-passes, first-lowest}
 use Rattle.demands.proofs.Lists.{In, any-in, in-any, those-in, in-those, back, perm-in, perm-length}
 use Rattle.demands.proofs.Looks.{BusyAt, ticket-busy}
 use Rattle.demands.proofs.Marks.{SlotIs, EntryIs, SlotOK, EntryOK, Marks, slot-at, entry-at, m-means, ones-none, some-zero}
@@ -85,12 +85,12 @@ module _ (l : List Slot) (g : List (Option Version)) (len : length g ≡ length 
       go (some v) e = let w = numbered-at i (some v) e in let y : 1 ≤ slotIn l i .number = w .1 in absurd (omega arith)
 
   pub empty-place : emptySlot l < length l → getD g (emptySlot l) none ≡ none
-  empty-place h = empty-none (emptySlot l) (eqb-true _ _ (first-passes (λ i. eqb (slotIn l i .number) 0) 0 (length l) (omega arith)))
+  empty-place h = empty-none (emptySlot l) (eqb-true _ _ (first-found (λ i. eqb (slotIn l i .number) 0) 0 (length l) (omega arith)))
 
   pub full-place : (emptySlot l < length l → ⊥) → (j : ℕ) → j < length g → getD g j none ≡ none → ⊥
   full-place d j h e =
       let z : slotIn l j .number ≡ 0 = numbered-at j none e in
-      let y : emptySlot l ≤ j = first-lowest (λ i. eqb (slotIn l i .number) 0) 0 (length l) j (omega arith) (omega arith) (eq-eqb _ _ z) in
+      let y : emptySlot l ≤ j = first-lowest (λ i. eqb (slotIn l i .number) 0) 0 (length l) j (omega arith) (eq-eqb _ _ z) in
       d (omega arith)
 
   -- all places are taken exactly where no slot is empty
@@ -115,7 +115,7 @@ module _ (l : List Slot) (g : List (Option Version)) (len : length g ≡ length 
   bearer k hk h = go (getD g (bearing l k) none) refl
     where
       z : slotIn l (bearing l k) .number ≡ k
-      z = eqb-true _ _ (first-passes (λ i. eqb (slotIn l i .number) k) 0 (length l) (omega arith))
+      z = eqb-true _ _ (first-found (λ i. eqb (slotIn l i .number) k) 0 (length l) (omega arith))
 
       go : (o : Option Version) → getD g (bearing l k) none ≡ o → (v : Version) × At g (bearing l k) v × (v .number ≡ k)
       go none e = let y : slotIn l (bearing l k) .number ≡ 0 = numbered-at (bearing l k) none e in absurd (omega (arith, z))
@@ -125,7 +125,7 @@ module _ (l : List Slot) (g : List (Option Version)) (len : length g ≡ length 
   bears i v e =
       let w = numbered-at i (some v) e in
       let h : i < length g = at-below g i v e in
-      let y : bearing l (v .number) ≤ i = first-lowest (λ i. eqb (slotIn l i .number) (v .number)) 0 (length l) i (omega arith) (omega arith) (eq-eqb _ _ (w .0)) in
+      let y : bearing l (v .number) ≤ i = first-lowest (λ i. eqb (slotIn l i .number) (v .number)) 0 (length l) i (omega arith) (eq-eqb _ _ (w .0)) in
       omega arith
 
 -- ---- what follows of the store between calls

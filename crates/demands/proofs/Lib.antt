@@ -6,8 +6,7 @@ pub mod Past
 pub mod Marks
 pub mod Sizes
 pub mod Codec
-pub mod Walks
-pub mod Firsts
+pub mod FirstOf
 pub mod HighBits
 pub mod SoundDesk
 pub mod Moves

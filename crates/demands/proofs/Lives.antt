@@ -17,6 +17,7 @@ use Rattle.rules.specs.Calls.{opened, slotIn}
 use Rattle.rules.specs.Memory.{Lent, free, idle, Store, R, read, written}
 use Rattle.rules.specs.Refusals.{Call, Reply, ownRight, allRight, firstOf, ownRefusals, looksAtDesk, refusals, effect, refusedAs, outOf, writtenAll, replied, called}
 use Rattle.rules.specs.Sound.{sound, nInRange}
+use Rattle.demands.proofs.FirstOf.{no-refusal, same-first, skip-first}
 use Rattle.demands.proofs.Changes.{opened-fine}
 use Rattle.demands.proofs.Codec.{read-written}
 use Rattle.demands.proofs.DemandOne.{accepted, demand-1}
@@ -26,7 +27,7 @@ use Rattle.demands.proofs.NextKeeps.{shelf-awaited}
 use Rattle.demands.proofs.Past.{opened-past}
 use Rattle.demands.proofs.Places.{standing-none}
 use Rattle.demands.proofs.Positions.{tickets, all-run}
-use Rattle.demands.proofs.ReasonsAre.{same-first, skip-first, reasons-are}
+use Rattle.demands.proofs.ReasonsAre.{reasons-are}
 use Rattle.demands.proofs.Sizes.{replicate-all}
 use Rattle.demands.proofs.SoundDesk.{of-sound, range}
 use Rattle.demands.proofs.Spelling.{to-lengths, count-read}
@@ -92,10 +93,6 @@ opened-inv n t r hn ht hs =
 
     card : (i : ℕ) → SeatOK (getD (replicate 64 idle) i idle) (getD (replicate {A = Option Scan} n none) i none)
     card i = subst (SeatOK (getD (replicate 64 idle) i idle)) (sym (replicate-all (λ o. o ≡ none) none n none refl refl i)) (replicate-all (λ c. c .ticket .0 ≡ 0) idle 64 idle refl refl i)
-
-pub no-refusal : firstOf [] ≡ none
-unfolding firstOf
-no-refusal = refl
 
 module _ (o : Opening) where
   unrefused : firstOf (refusals (o .old) (Call.opening (o .n))) ≡ none

@@ -4,9 +4,7 @@ use mathlib.Core.Bool.{Bool, true, false, not, _&&_}
 use mathlib.Core.Option.{Option, none, some}
 use mathlib.Core.List.{List, [], _∷_}
 use Prim.Native.Nat.{ℕ, _+_, _%_, _<_}
-use native.Mathlib.Nat.{div-eq-of-lt}
 use native.Mathlib.Omega.{arith}
-use lib.Pow.{pow-pos}
 use lib.Dec.{ltb}
 use lib.ListN.{getD}
 use borrow.Author.Tests.{eqb-true, eqb-false}
@@ -26,7 +24,7 @@ use Rattle.demands.proofs.Invariant.{aw, Inv, busy, seat, resting, slot
 use Rattle.demands.proofs.Lives.{Living, all-live, opening-reads, accepted-is, refused-is, well}
 use Rattle.demands.proofs.Positions.{tickets, sitting-is}
 use Rattle.demands.proofs.Turns.{Turns, effect-turns, still}
-use Rattle.rules.proofs.Bits.{bit-low}
+use Rattle.rules.proofs.Bits.{bit-low, bit-zero}
 
 module _ (n t r : ℕ) (S : Store) (h : History) (gt gs : List (Option Version)) (sc : List (Option Scan)) (q : Inv n t r S h gt gs sc) (ps : List (Option ℕ)) (is-ps : ps ≡ tickets sc) where
   -- the scan at position i
@@ -66,13 +64,9 @@ unmoved : (l : Lent) (c : Call) (k : ℕ) → Turns (read l .desk .masks) (read 
 unfolding replied
 unmoved l c k = still (read l .desk .masks)
 
-zero-bit : (i : ℕ) → bit 0 i ≡ 0
-unfolding bit
-zero-bit i = rw (div-eq-of-lt (pow-pos i)) refl
-
 opened-stable : (o : Opening) (i : ℕ) → bit (masksAfter called o [] .stable) i ≡ 0
 unfolding opened
-opened-stable o i = ap (λ (S : Store). bit (S .desk .masks .stable) i) (opening-reads o) ∙ zero-bit i
+opened-stable o i = ap (λ (S : Store). bit (S .desk .masks .stable) i) (opening-reads o) ∙ bit-zero i
 
 module _ (o : Opening) where
   lived : (cs : List Call) → All Within cs → Living (o .n) (tableSlots o) (shelfEntries o) (bytesAfter called o cs) (past called o cs) (placesAfter called lowest o cs)

@@ -28,7 +28,7 @@ use Rattle.demands.proofs.Past.{ever, ticketOf, awaited-began}
 use Rattle.demands.proofs.Places.{At, keep-all}
 use Rattle.demands.proofs.ShelfLooks.{shelf-found, shelf-not-here, shelf-pass-keeps, shelf-hit-keeps}
 use Rattle.demands.proofs.TableLooks.{table-found, table-not-here, table-pass-keeps, table-hit-keeps}
-use Rattle.demands.proofs.Walks.{walk-ind}
+use Rattle.rules.proofs.Walk.{walk-ind}
 
 -- ---- looks made one after another
 

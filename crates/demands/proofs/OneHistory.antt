@@ -17,10 +17,9 @@ use Rattle.demands.specs.Reasons.{reason, reasons}
 use Rattle.demands.specs.RuleOfNext.{Peeks, stillToCome, RuleOfNext}
 use Rattle.rules.specs.Answers.{Answer, number}
 use Rattle.rules.specs.Refusals.{Call, firstOf, refusedAs}
-use Rattle.demands.proofs.Firsts.{Untrue, none-holds}
-use Rattle.demands.proofs.Lives.{no-refusal, refused-heard}
+use Rattle.demands.proofs.FirstOf.{Untrue, holds-first, no-refusal, none-holds, skip-first}
+use Rattle.demands.proofs.Lives.{refused-heard}
 use Rattle.demands.proofs.Places.{length-keep}
-use Rattle.demands.proofs.ReasonsAre.{skip-first, holds-first}
 use Rattle.demands.proofs.SameAnswers.{alike, one-part}
 
 -- ---- there are as many places as slots and entries

@@ -21,7 +21,7 @@ use Rattle.demands.proofs.Looks.{BusyAt, not-at-end, look-fine, look-ca
 use Rattle.demands.proofs.Moves.{Fine}
 use Rattle.demands.proofs.Spelling.{count-read}
 use Rattle.demands.proofs.Stays.{at-position, ticket-some, ticket-there, look-kept}
-use Rattle.demands.proofs.Walks.{walk-stop, walkOn, walk-on, walk-ind}
+use Rattle.rules.proofs.Walk.{walk-stop, walkOn, walk-on, walk-ind}
 
 -- ---- a walk with a budget for every place left hands out the same, whatever the budget, the looks made and the buffer
 

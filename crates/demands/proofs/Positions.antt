@@ -14,7 +14,7 @@ use Rattle.demands.specs.Placement.{isEmpty, lowestEmpty, scanWith}
 use Rattle.rules.specs.Calls.{first, freePosition}
 use Rattle.rules.specs.Masks.{on}
 use Rattle.rules.specs.Memory.{Store}
-use Rattle.demands.proofs.Firsts.{first-same}
+use Rattle.rules.proofs.First.{first-same}
 use Rattle.demands.proofs.Invariant.{Inv, busy, resting, runs-at, n-64}
 use Rattle.demands.proofs.NextKeeps.{ticket-runs}
 use Rattle.demands.proofs.Past.{ticketOf}
@@ -33,7 +33,7 @@ module _ (n t r : ℕ) (S : Store) (h : History) (gt gs : List (Option Version))
   -- the position that begin takes is the lowest empty one
   free-is : freePosition S ≡ lowestEmpty (tickets sc)
   free-is =
-      first-same (λ i. on (S .desk .masks .active) i) (λ i. isEmpty (getD (tickets sc) i none)) 0 (S .desk .n) (λ i k. test i (omega (arith, q .isN)))
+      first-same (λ i. on (S .desk .masks .active) i) (λ i. isEmpty (getD (tickets sc) i none)) 0 (S .desk .n) (λ i from k. test i (omega (arith, q .isN)))
       ∙ ap (λ (m : ℕ). first (λ i. isEmpty (getD (tickets sc) i none)) 0 m) (q .isN ∙ sym (q .seats) ∙ sym (length-places ticketOf sc))
     where
       test : (i : ℕ) → i < n → on (S .desk .masks .active) i ≡ isEmpty (getD (tickets sc) i none)

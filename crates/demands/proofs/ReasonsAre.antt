@@ -15,30 +15,16 @@ use Rattle.rules.specs.Calls.{bearing, emptySlot, shelfEntry, freePosition, car
 use Rattle.rules.specs.Masks.{bit, on}
 use Rattle.rules.specs.Memory.{Store, T, R}
 use Rattle.rules.specs.Refusals.{Call, ownRight, firstOf, there, noRoom, noScan, ownRefusals}
+use Rattle.rules.proofs.First.{first-found, first-lowest}
+use Rattle.demands.proofs.FirstOf.{same-first, skip-first}
 use Rattle.demands.proofs.Apart.{apart-eq}
 use Rattle.demands.proofs.BeginKeeps.{free-seat}
 use Rattle.demands.proofs.ChangesKeep.{leaves}
-use Rattle.demands.proofs.Firsts.{first-passes, first-lowest}
 use Rattle.demands.proofs.Invariant.{SeatOK, Inv, n-64, table-numbers, shelf-numbers, gt-length, gs-length, full-is, bearer, bears, runs-at, at-runs, position, seat, live-at, at-live, unawaited-is, resting}
 use Rattle.demands.proofs.Lists.{In, clash, any-in, in-any, any-perm, perm-length, first-only}
 use Rattle.demands.proofs.Past.{ticketOf}
 use Rattle.demands.proofs.Places.{At, room-less, full-all}
 use Rattle.demands.proofs.Stays.{some-number, at-position, ticket-some, ticket-there}
-
--- ---- lists of tests that come to the same
-
-pub same-first : (a b : Bool) (k : ℕ) (ts us : List (Bool × ℕ)) → a ≡ b → (b ≡ false → firstOf ts ≡ firstOf us) → firstOf ((a, k) ∷ ts) ≡ firstOf ((b, k) ∷ us)
-unfolding firstOf
-same-first a true k ts us e f = rw e refl
-same-first a false k ts us e f = rw e (f refl)
-
-pub holds-first : (k : ℕ) (ts : List (Bool × ℕ)) → firstOf ((true, k) ∷ ts) ≡ some k
-unfolding firstOf
-holds-first k ts = refl
-
-pub skip-first : (a : Bool) (k : ℕ) (ts : List (Bool × ℕ)) → a ≡ false → firstOf ((a, k) ∷ ts) ≡ firstOf ts
-unfolding firstOf
-skip-first a k ts e = rw e refl
 
 module _ (n t r : ℕ) (S : Store) (h : History) (gt gs : List (Option Version)) (sc : List (Option Scan)) (q : Inv n t r S h gt gs sc) where
   -- ---- records
@@ -91,7 +77,7 @@ module _ (n t r : ℕ) (S : Store) (h : History) (gt gs : List (Option Version))
       go : (b : Bool) → ltb (freePosition S) (S .desk .n) ≡ b → not (ltb (freePosition S) (S .desk .n)) ≡ leb n (length (h .running))
       go true e =
           let k : freePosition S < S .desk .n = ltb-true _ _ e in
-          let a : bit (S .desk .masks .active) (freePosition S) ≡ 1 = eqb-true _ _ (first-passes (λ i. on (S .desk .masks .active) i) 0 (S .desk .n) (omega arith)) in
+          let a : bit (S .desk .masks .active) (freePosition S) ≡ 1 = eqb-true _ _ (first-found (λ i. on (S .desk .masks .active) i) 0 (S .desk .n) (omega arith)) in
           let l : length (standing sc) < length sc = room-less sc (freePosition S) (free-seat n t r S h gt gs sc q (freePosition S) a) (omega (arith, q .seats, q .isN)) in
           rw (e, lt-leb n (length (h .running)) (omega (arith, m, q .seats))) refl
       go false e =
@@ -102,7 +88,7 @@ module _ (n t r : ℕ) (S : Store) (h : History) (gt gs : List (Option Version))
           taken : (j : ℕ) → j < S .desk .n → getD sc j none ≡ none → S .desk .n ≤ freePosition S → ⊥
           taken j w z k =
               let a : bit (S .desk .masks .active) j ≡ 1 = resting n t r S h gt gs sc q j (omega (arith, n-64 n t r S h gt gs sc q, q .isN)) z .active in
-              let f : freePosition S ≤ j = first-lowest (λ i. on (S .desk .masks .active) i) 0 (S .desk .n) j (omega arith) (omega arith) (eq-eqb _ _ a) in
+              let f : freePosition S ≤ j = first-lowest (λ i. on (S .desk .masks .active) i) 0 (S .desk .n) j (omega arith) (eq-eqb _ _ a) in
               omega arith
 
   tickets-spent-is : eqb (S .desk .last) 4294967295 ≡ leb 4294967295 (h .given)
@@ -132,7 +118,7 @@ module _ (n t r : ℕ) (S : Store) (h : History) (gt gs : List (Option Version))
           let w = at-runs n t r S h gt gs sc q s i in
           let c : cardOf S (w .0) .ticket .0 ≡ s .ticket = seat n t r S h gt gs sc q (w .0) s (w .1) .ticket in
           let p : w .0 < 64 = position n t r S h gt gs sc q (w .0) s (w .1) in
-          let f : positionOf S k ≤ w .0 = first-lowest (λ i. eqb (cardOf S i .ticket .0) k) 0 64 (w .0) (omega arith) (omega arith) (eq-eqb _ _ (c ∙ z)) in
+          let f : positionOf S k ≤ w .0 = first-lowest (λ i. eqb (cardOf S i .ticket .0) k) 0 64 (w .0) (omega arith) (eq-eqb _ _ (c ∙ z)) in
           rw (ne-eqb k 0 (λ y. omega (arith, q .past .scans s i .low)), lt-ltb (positionOf S k) 64 (omega arith)) refl
 
       go : (a : Bool) → noScan S k ≡ a → (b : Bool) → runs h k ≡ b → noScan S k ≡ not (runs h k)

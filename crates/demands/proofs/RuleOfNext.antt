@@ -20,10 +20,11 @@ use Rattle.rules.specs.Calls.{positionOf}
 use Rattle.rules.specs.Memory.{Store, T, R, read}
 use Rattle.rules.specs.Next.{walk, peeked}
 use Rattle.rules.specs.Refusals.{Call, Reply, firstOf, noScan, ownRefusals, refusals, effect, outOf, called}
+use Rattle.demands.proofs.FirstOf.{no-refusal}
 use Rattle.demands.proofs.Counts.{records-are, entries-are, owed-is}
 use Rattle.demands.proofs.DemandOne.{accepted, out-left}
 use Rattle.demands.proofs.Invariant.{Inv, runs-at}
-use Rattle.demands.proofs.Lives.{no-refusal, Living, all-live, call-lives, refusals-are, accepted-is}
+use Rattle.demands.proofs.Lives.{Living, all-live, call-lives, refusals-are, accepted-is}
 use Rattle.demands.proofs.NextKeeps.{Answered, next-keeps}
 use Rattle.demands.proofs.Places.{At}
 use Rattle.demands.proofs.ReasonsAre.{scan-at, scan-of}

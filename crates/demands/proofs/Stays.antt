@@ -13,11 +13,12 @@ use Rattle.rules.specs.Calls.{bearing, freePosition, cardOf, positionOf, opened
 use Rattle.rules.specs.Memory.{free, Store, T, R}
 use Rattle.rules.specs.Next.{inTable, onShelf, tableLook, shelfLook, lookAt, look, finish, walk}
 use Rattle.rules.specs.Refusals.{Call, ownRight, noScan, ownRefusals, effect}
+use Rattle.rules.proofs.First.{first-found}
+use Rattle.demands.proofs.FirstOf.{Untrue}
 use Rattle.demands.proofs.Changes.{inserted-fine, changed-fine, given-fine, opened-fine}
-use Rattle.demands.proofs.Firsts.{Untrue, first-passes}
 use Rattle.demands.proofs.Looks.{BusyAt, look-fine, finish-fine, ticket-busy, look-busy}
 use Rattle.demands.proofs.Moves.{Fine}
-use Rattle.demands.proofs.Walks.{walk-ind}
+use Rattle.rules.proofs.Walk.{walk-ind}
 
 -- ---- the scan of a ticket
 
@@ -39,7 +40,7 @@ module _ (S : Store) (t : ℕ) (h : noScan S t ≡ false) where
   ticket-some = some-number t (or-false (eqb t 0) (not (ltb (positionOf S t) 64)) h .0)
 
   pub ticket-there : cardOf S (positionOf S t) .ticket .0 ≡ t
-  ticket-there = eqb-true _ _ (first-passes (λ i. eqb (cardOf S i .ticket .0) t) 0 64 at-position)
+  ticket-there = eqb-true _ _ (first-found (λ i. eqb (cardOf S i .ticket .0) t) 0 64 at-position)
 
 -- ---- fine
 

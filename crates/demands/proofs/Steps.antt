@@ -20,10 +20,11 @@ use Rattle.rules.specs.Masks.{bit, on}
 use Rattle.rules.specs.Memory.{Slot, Store, R}
 use Rattle.rules.specs.Next.{walk}
 use Rattle.rules.specs.Refusals.{Call, ownRight, there, noRoom, ownRefusals, effect}
+use Rattle.rules.proofs.First.{first-found, first-lowest}
+use Rattle.demands.proofs.FirstOf.{Untrue}
 use Rattle.demands.proofs.BeginKeeps.{free-seat, begin-keeps}
 use Rattle.demands.proofs.ChangesKeep.{insert-keeps, modify-keeps, delete-keeps}
 use Rattle.demands.proofs.DemandOne.{unrefused}
-use Rattle.demands.proofs.Firsts.{Untrue, first-passes, first-lowest}
 use Rattle.demands.proofs.Invariant.{NumberOK, Inv, n-64, table-numbers, shelf-numbers, gt-length, gs-length, unawaited-is, runs-at, resting}
 use Rattle.demands.proofs.NextKeeps.{next-keeps}
 use Rattle.demands.proofs.Places.{At}
@@ -39,9 +40,9 @@ empty-none (some v) e = absurd (false≢true e)
 
 lowest-empty : {A : Type 0} → IfThereIsOne {A = A} lowestEmpty
 lowest-empty l j h e =
-    let f : lowestEmpty l ≤ j = first-lowest (λ i. isEmpty (getD l i none)) 0 (length l) j (omega arith) (omega arith) (ap isEmpty e) in
+    let f : lowestEmpty l ≤ j = first-lowest (λ i. isEmpty (getD l i none)) 0 (length l) j (omega arith) (ap isEmpty e) in
     let b : lowestEmpty l < length l = omega arith in
-    (b, empty-none (getD l (lowestEmpty l) none) (first-passes (λ i. isEmpty (getD l i none)) 0 (length l) (omega arith)))
+    (b, empty-none (getD l (lowestEmpty l) none) (first-found (λ i. isEmpty (getD l i none)) 0 (length l) (omega arith)))
 
 pub lowest-takes : TakesEmpty lowest
 lowest-takes = record { version = lowest-empty; scan = lowest-empty }
@@ -188,7 +189,7 @@ module _ (n t r : ℕ) (S : Store) (h : History) (gt gs : List (Option Version))
   unfolding ownRefusals heard moves Fulfils
   begin-steps u =
       let p : freePosition S < S .desk .n = ltb-true _ _ (not-false _ (u .0)) in
-      let a : bit (S .desk .masks .active) (freePosition S) ≡ 1 = eqb-true _ _ (first-passes (λ i. on (S .desk .masks .active) i) 0 (S .desk .n) (omega arith)) in
+      let a : bit (S .desk .masks .active) (freePosition S) ≡ 1 = eqb-true _ _ (first-found (λ i. on (S .desk .masks .active) i) 0 (S .desk .n) (omega arith)) in
       let e : S .desk .last + 1 ≡ suc (h .given) = omega (arith, q .last) in
       let f = free-seat n t r S h gt gs sc q (freePosition S) a in
       let i = begin-keeps n t r S h gt gs sc q (freePosition S) (omega (arith, q .isN)) f (resting n t r S h gt gs sc q (freePosition S) (omega (arith, n-64 n t r S h gt gs sc q, q .isN)) f .local)

@@ -18,12 +18,12 @@ use Rattle.rules.specs.Next.{turned, inTable, onShelf, tableLook, shelfLook, lo
 use Rattle.rules.specs.Refusals.{Call, ownRefusals, effect}
 use Rattle.rules.proofs.Bits.{bit-low}
 use Rattle.rules.proofs.TableOne.{flip-own, flip-other, set-own, set-other, clear-own, clear-other}
+use Rattle.demands.proofs.FirstOf.{Untrue}
 use Rattle.demands.proofs.ChangesKeep.{desk-same}
-use Rattle.demands.proofs.Firsts.{Untrue}
 use Rattle.demands.proofs.Looks.{BusyAt, look-fine, ticket-busy, look-busy}
 use Rattle.demands.proofs.Moves.{Fine, n-most}
 use Rattle.demands.proofs.Stays.{at-position, ticket-some, ticket-there}
-use Rattle.demands.proofs.Walks.{walk-ind}
+use Rattle.rules.proofs.Walk.{walk-ind}
 
 -- masks before and after: the stable bit turns where the local active bit rises
 abbrev pub Turns : Masks → Masks → Type 0

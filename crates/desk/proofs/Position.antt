@@ -12,7 +12,7 @@ use Rattle.rules.specs.Masks.{on}
 use Rattle.rules.specs.Memory.{lent, read, deskOf, cardAt, idle}
 use Rattle.rules.specs.Calls.{first, cardOf, positionOf, freePosition}
 use Rattle.rules.proofs.Each.{at-each}
-use Rattle.laws.proofs.First.{first-same, first-none, first-split-found, first-split-none}
+use Rattle.rules.proofs.First.{first-same, first-none, first-split-found, first-split-none}
 
 -- the lowest position with active bit 1
 pub free-is : (d : List ℕ) {n a : ℕ} → n ≡ u32At d 0 → a ≡ u64At d 24 → first (λ i. on a i) 0 n ≡ freePosition (read (lent d [] []))

@@ -1,17 +1,16 @@
 -- What a call gives on a sound desk, case by case: one law for each way out of its code.
 use mathlib.Core.Path.{_≡_, refl}
-use mathlib.Core.Bool.{Bool, true, false, not, _&&_, _||_}
-use mathlib.Core.Option.{Option, none, some}
+use mathlib.Core.Bool.{true, false}
+use mathlib.Core.Option.{none, some}
 use mathlib.Core.List.{List, []}
-use Prim.Native.Nat.{ℕ, _+_, _^_, _≤_, _<_}
-use lib.Dec.{ltb, eqb}
+use Prim.Native.Nat.{ℕ, _+_, _≤_, _<_}
 use borrow.Author.Tests.{lt-ltb, le-ltb, eq-eqb, ne-eqb}
-use Rattle.rules.specs.Answers.{Answer, done, begun, counted, owing, part, refused}
-use Rattle.rules.specs.Calls.{bearing, emptySlot, shelfEntry, freePosition, positionOf, opened, inserted, mAt, unawaited, changedBy, given, used, owedBy}
+use Rattle.rules.specs.Answers.{done, begun, counted, owing, part, refused}
+use Rattle.rules.specs.Calls.{bearing, emptySlot, shelfEntry, freePosition, positionOf, opened, inserted, mAt, changedBy, given, used, owedBy}
 use Rattle.rules.specs.Masks.{ones}
 use Rattle.rules.specs.Memory.{Store, T, R}
-use Rattle.rules.specs.Next.{Told, told, walk, peeked}
-use Rattle.rules.specs.Refusals.{Call, firstOf, ownRefusals, kindRight, there, effect, refusedAs, outOf, settled, step}
+use Rattle.rules.specs.Next.{told, walk, peeked}
+use Rattle.rules.specs.Refusals.{Call, firstOf, ownRefusals, kindRight, effect, refusedAs, outOf, settled, step}
 use Rattle.rules.specs.Sound.{nInRange}
 
 module _ (S : Store) where

@@ -2,16 +2,16 @@
 use mathlib.Core.Path.{_≡_, refl, sym, ap, _∙_}
 use mathlib.Core.Logic.{_⊎_, inl, inr}
 use mathlib.Core.List.{List, [], _++_, append-assoc}
-use Prim.Native.Nat.{ℕ, _+_, _*_, _-_, _/_, _^_, _≤_, _<_}
+use Prim.Native.Nat.{ℕ, _+_, _*_, _-_, _^_, _≤_, _<_}
 use native.Mathlib.Nat.{add-zero}
 use native.Mathlib.Omega.{arith}
 use native.Mathlib.Decide.{decLt}
-use lib.ListN.{length, take, drop, set, length-append}
+use lib.ListN.{length, set, length-append}
 use lib.Seq.{take-at, drop-at, take-all}
 use Rattle.rules.specs.declared.Card.{Card}
 use Rattle.rules.specs.Bytes.{le, toLe, field, u32At, u64At}
 use Rattle.rules.specs.Masks.{Masks, masks}
-use Rattle.rules.specs.Memory.{Desk, desk, card, idle, each, cardAt, masksOf, deskOf, cardBytes, masksBytes}
+use Rattle.rules.specs.Memory.{Desk, desk, card, idle, each, cardAt, deskOf, cardBytes, masksBytes}
 use Rattle.rules.specs.Next.{deskWith}
 use Rattle.rules.proofs.Bytes.{length-toLe, le-toLe}
 use Rattle.rules.proofs.Each.{each-same, each-set}

@@ -1,17 +1,17 @@
 -- The bytes that a change leaves spell the store of the rule.
 use mathlib.Core.Path.{_≡_, refl, sym, ap, _∙_}
 use mathlib.Core.Bool.{true, false}
-use mathlib.Core.Option.{Option, none, some}
-use mathlib.Core.List.{List, []}
+use mathlib.Core.Option.{none, some}
+use mathlib.Core.List.{List}
 use Prim.Native.Nat.{ℕ, _+_, _*_, _/_, _^_, _≤_, _<_}
 use native.Mathlib.Nat.{add-zero}
 use native.Mathlib.Omega.{arith}
 use lib.ListN.{length, getD, set, replicate}
 use lib.Seq.{set-set, getD-set-same}
 use Rattle.rules.specs.Bytes.{toLe, field, u32At, u64At}
-use Rattle.rules.specs.Calls.{slotIn, emptySlot, shelfEntry, inserted, mAt, changedBy}
+use Rattle.rules.specs.Calls.{emptySlot, shelfEntry, inserted, mAt, changedBy}
 use Rattle.rules.specs.Masks.{newStatus, mOf, STATUS-MASK-UPD}
-use Rattle.rules.specs.Memory.{Lent, lent, Slot, slot, free, Store, slotAt, slotsOf, masksOf, deskOf, read}
+use Rattle.rules.specs.Memory.{lent, Slot, slot, free, slotAt, slotsOf, masksOf, deskOf, read}
 use Rattle.rules.proofs.Bits.{not-small}
 use Rattle.rules.proofs.Bytes.{length-field, length-toLe}
 use Rattle.layout.specs.Puts.{put, put32, put64}

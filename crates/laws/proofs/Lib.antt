@@ -1,7 +1,6 @@
 pub mod Bools
 pub mod Slots
 pub mod Desks
-pub mod First
 pub mod Search
 pub mod Looks
 pub mod Walks

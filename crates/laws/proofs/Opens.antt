@@ -1,15 +1,15 @@
 -- The bytes that an opening leaves spell a fresh store.
 use mathlib.Core.Path.{_≡_, refl, sym, ap, _∙_}
 use mathlib.Core.List.{List, [], _∷_, _++_, append-assoc}
-use Prim.Native.Nat.{ℕ, zero, suc, _+_, _*_, _-_, _/_, _^_, _≤_, _<_}
+use Prim.Native.Nat.{ℕ, zero, suc, _+_, _*_, _-_, _/_, _≤_, _<_}
 use native.Mathlib.Omega.{arith}
-use lib.ListN.{length, take, drop, getD, replicate, length-replicate, getD-replicate, length-append, length-drop}
+use lib.ListN.{length, take, drop, replicate, length-replicate, getD-replicate, length-append, length-drop}
 use lib.Seq.{ext-getD, getD-take, getD-drop, length-take-le}
 use Rattle.rules.specs.Bytes.{le, toLe, field, u32At, u64At}
 use Rattle.rules.specs.Calls.{opened}
-use Rattle.rules.specs.Masks.{Masks, masks, fresh}
-use Rattle.rules.specs.Memory.{Lent, lent, Slot, free, card, idle, Desk, desk, each, slotAt, slotsOf, cardAt, deskOf, read, masksBytes}
-use Rattle.rules.proofs.Bytes.{length-toLe, le-toLe}
+use Rattle.rules.specs.Masks.{masks, fresh}
+use Rattle.rules.specs.Memory.{lent, free, idle, desk, each, slotAt, slotsOf, cardAt, deskOf, read, masksBytes}
+use Rattle.rules.proofs.Bytes.{length-toLe}
 use Rattle.rules.proofs.Each.{each-same}
 use Rattle.layout.specs.Puts.{put, put32}
 use Rattle.layout.proofs.Fields.{put-put, field-put-in, field-put-after, length-put}

@@ -3,13 +3,12 @@ use mathlib.Core.Path.{_≡_, refl, sym, ap, _∙_}
 use mathlib.Core.Bool.{Bool, true, false, not, _&&_}
 use mathlib.Core.Option.{Option, none, some}
 use mathlib.Core.List.{List}
-use Prim.Native.Nat.{ℕ, _+_, _*_, _/_, _%_, _≤_, _<_}
-use native.Mathlib.Omega.{arith}
+use Prim.Native.Nat.{ℕ, _/_, _%_, _≤_}
 use lib.Dec.{leb, eqb}
 use lib.ListN.{length}
 use borrow.Author.Tests.{eqb-true, leb-true}
 use Rattle.rules.specs.Answers.{Answer}
-use Rattle.rules.specs.Memory.{Lent, lent, read, written}
+use Rattle.rules.specs.Memory.{Lent, lent, read}
 use Rattle.rules.specs.Next.{told}
 use Rattle.rules.specs.Refusals.{Call, slotsRight, lengthsRight, ownRight, allRight, firstOf, ownRefusals, looksAtDesk, refusals, refusedAs, outOf, settled, step, reply, writtenAll, replied, called}
 use Rattle.rules.specs.Sound.{sound}

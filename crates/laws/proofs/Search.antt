@@ -9,15 +9,15 @@ use native.Mathlib.Omega.{arith}
 use native.Mathlib.Decide.{decLt, ℕ-discrete}
 use lib.Bits.{bitXor, xor-zero-l}
 use lib.Dec.{eqb}
-use lib.ListN.{length, getD}
+use lib.ListN.{length}
 use borrow.Author.Tests.{eq-eqb, ne-eqb, eqb-true, eqb-false}
 use Rattle.rules.specs.Bytes.{u32At, u64At}
 use Rattle.rules.specs.Calls.{first, slotIn, inUse, bearing, count as countOf}
 use Rattle.rules.specs.Masks.{bit, off}
-use Rattle.rules.specs.Memory.{Slot, slot, free, each, slotAt, slotsOf}
+use Rattle.rules.specs.Memory.{Slot, each, slotsOf}
 use Rattle.rules.proofs.Bits.{bit-xor, bit-low}
 use Rattle.laws.specs.Search.{bears, bearsOrEmpty, waiting}
-use Rattle.laws.proofs.First.{first-found, first-before, first-split-none, first-most, first-same, first-miss-four}
+use Rattle.rules.proofs.First.{first-found, first-before, first-split-none, first-most, first-same, first-miss-four}
 use Rattle.laws.proofs.Slots.{count, at}
 
 -- ---- slot i of a buffer

@@ -1,7 +1,7 @@
 -- The slots that bytes spell after a write: a write inside a slot changes that slot and no other.
-use mathlib.Core.Path.{_≡_, refl, sym, ap, _∙_}
+use mathlib.Core.Path.{_≡_, refl, sym, _∙_}
 use mathlib.Core.Logic.{_⊎_, inl, inr}
-use mathlib.Core.List.{List, [], _++_}
+use mathlib.Core.List.{List}
 use Prim.Native.Nat.{ℕ, _+_, _*_, _-_, _/_, _^_, _≤_, _<_}
 use native.Mathlib.Nat.{add-zero}
 use native.Mathlib.Omega.{arith}
@@ -9,7 +9,7 @@ use native.Mathlib.Decide.{decLt}
 use lib.ListN.{length, take, drop, getD, set, length-drop, replicate}
 use lib.Seq.{getD-take, getD-drop, ext-getD, length-take-le}
 use Rattle.rules.specs.Bytes.{le, toLe, field, u32At, u64At}
-use Rattle.rules.specs.Memory.{Slot, slot, free, slotAt, slotsOf}
+use Rattle.rules.specs.Memory.{slot, free, slotAt, slotsOf}
 use Rattle.rules.proofs.Bytes.{length-toLe, le-toLe}
 use Rattle.rules.proofs.Each.{length-each, at-each, each-set}
 use Rattle.layout.specs.Puts.{put, put32, put64}

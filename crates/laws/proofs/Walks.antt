@@ -1,7 +1,7 @@
 -- Next as one search.
 use mathlib.Core.Path.{_≡_, refl, sym, ap, _∙_}
 use mathlib.Core.Bool.{true, false}
-use mathlib.Core.Option.{none, some}
+use mathlib.Core.Option.{Option, none, some}
 use mathlib.Core.List.{List}
 use Prim.Native.Nat.{ℕ, zero, suc, _+_, _-_, _≤_, _<_}
 use native.Mathlib.Nat.{add-suc, suc-add, add-zero, zero-add}
@@ -12,29 +12,21 @@ use Rattle.rules.specs.Answers.{inHand, paused, finished}
 use Rattle.rules.specs.Calls.{cardOf}
 use Rattle.rules.specs.Memory.{Slot, Store, T, R, version}
 use Rattle.rules.specs.Next.{told, look, atEnd, finish, walk}
+use Rattle.rules.proofs.Walk.{walk-stop, walk-rest, walkOn, walk-on}
 use Rattle.laws.specs.Walks.{hit, reach, stopAt, movedTo, took, here}
-use Rattle.laws.proofs.First.{first-least, first-found, first-before}
+use Rattle.rules.proofs.First.{first-least, first-found, first-before}
 use Rattle.laws.proofs.Looks.{passed, passed-none, handed-passed, end-passed, look-miss, look-hit}
 
--- ---- the rule of next, by what it meets
+-- ---- one more look, by what it meets
 
-module _ (S : Store) (p : ℕ) where
-  walk-ends : (b l : ℕ) (o : List ℕ) → atEnd S p ≡ true → walk S p b l o ≡ told (finished l b (cardOf S p .handed)) (finish S p) o
-  unfolding walk
-  walk-ends zero l o e = rw (e, walk) refl
-  walk-ends (suc b) l o e = rw (e, walk) refl
+module _ (S : Store) (p b l : ℕ) (o : List ℕ) (S′ : Store) (more : atEnd S p ≡ false) where
+  walk-looks : look S p ≡ (S′, none) → walk S p (suc b) l o ≡ walk S′ p b (suc l) o
+  unfolding walkOn
+  walk-looks seen = walk-on S p b l o more ∙ ap (λ (x : Store × Option Slot). walkOn (x .0) p b l o (x .1)) seen
 
-  walk-rests : (l : ℕ) (o : List ℕ) → atEnd S p ≡ false → walk S p 0 l o ≡ told (paused l) S o
-  unfolding walk
-  walk-rests l o e = rw (e, walk) refl
-
-  walk-looks : (b l : ℕ) (o : List ℕ) (S′ : Store) → atEnd S p ≡ false → look S p ≡ (S′, none) → walk S p (suc b) l o ≡ walk S′ p b (suc l) o
-  unfolding walk
-  walk-looks b l o S′ e seen = rw (e, walk, seen) (rw seen refl)
-
-  walk-takes : (b l : ℕ) (o : List ℕ) (S′ : Store) (v : Slot) → atEnd S p ≡ false → look S p ≡ (S′, some v) → walk S p (suc b) l o ≡ told (inHand (suc l) b) S′ (version v)
-  unfolding walk
-  walk-takes b l o S′ v e seen = rw (e, walk, seen) (rw seen refl)
+  walk-takes : (v : Slot) → look S p ≡ (S′, some v) → walk S p (suc b) l o ≡ told (inHand (suc l) b) S′ (version v)
+  unfolding walkOn
+  walk-takes v seen = walk-on S p b l o more ∙ ap (λ (x : Store × Option Slot). walkOn (x .0) p b l o (x .1)) seen
 
 module _ (S : Store) (p : ℕ) (onDesk : p < length (S .desk .cards)) where
   not-at-end : (q : ℕ) → q < T S + R S → atEnd (passed S p q) p ≡ false
@@ -84,7 +76,7 @@ module _ (S : Store) (p : ℕ) (onDesk : p < length (S .desk .cards)) where
         go q e up =
             let z : suc q - cardOf S p .place ≡ suc (q - cardOf S p .place) = omega arith in
             walk-to q (suc (b - (suc q - cardOf S p .place))) up (omega arith) (omega arith) (omega arith)
-            ∙ walk-takes (passed S p q) p (b - (suc q - cardOf S p .place)) (q - cardOf S p .place) o (took S p q) (here S q) (not-at-end q (omega arith))
+            ∙ walk-takes (passed S p q) p (b - (suc q - cardOf S p .place)) (q - cardOf S p .place) o (took S p q) (not-at-end q (omega arith)) (here S q)
             (look-hit S p onDesk q up (ap (hit S p) e ∙ passes))
             ∙ ap (λ (n : ℕ). told (inHand n (b - (suc q - cardOf S p .place))) (took S p q) (version (here S q))) (sym z)
 
@@ -94,7 +86,7 @@ module _ (S : Store) (p : ℕ) (onDesk : p < length (S .desk .cards)) where
     walk-paused unseen more =
         let z : cardOf S p .place + b - cardOf S p .place ≡ b = omega arith in
         walk-to (cardOf S p .place + b) 0 (omega arith) (omega arith) (omega arith) (omega arith)
-        ∙ walk-rests (passed S p (cardOf S p .place + b)) p (cardOf S p .place + b - cardOf S p .place) o (not-at-end (cardOf S p .place + b) (omega arith))
+        ∙ walk-rest (passed S p (cardOf S p .place + b)) p (cardOf S p .place + b - cardOf S p .place) o (not-at-end (cardOf S p .place + b) (omega arith))
         ∙ rw z refl
 
     pub walk-finished : reach S p b ≤ stopAt S p b
@@ -104,6 +96,6 @@ module _ (S : Store) (p : ℕ) (onDesk : p < length (S .desk .cards)) where
         (finish (movedTo S p (T S + R S) (cardOf S p .handed) (S .table) (S .shelf)) p) o
     walk-finished unseen all =
         walk-to (T S + R S) (b - (T S + R S - cardOf S p .place)) within (omega arith) (omega arith) (omega arith)
-        ∙ walk-ends (passed S p (T S + R S)) p (b - (T S + R S - cardOf S p .place)) (T S + R S - cardOf S p .place) o
+        ∙ walk-stop (passed S p (T S + R S)) p (b - (T S + R S - cardOf S p .place)) (T S + R S - cardOf S p .place) o
         (end-passed S p onDesk (T S + R S) ∙ eq-eqb (T S + R S) (T S + R S) refl)
         ∙ rw (handed-passed S p onDesk (T S + R S)) refl

@@ -3,5 +3,7 @@ pub mod Each
 pub mod RoundTrip
 pub mod Bits
 pub mod TableOne
+pub mod First
+pub mod Walk
 pub mod Soundness
 pub mod Worked

@@ -1,12 +1,12 @@
 -- What is read of lent bytes and written again is what was lent: no byte is lost, junk and reserved words included.
 use mathlib.Core.Path.{_≡_, refl, sym, ap, _∙_}
-use mathlib.Core.List.{List, [], _∷_, _++_, append-assoc}
-use Prim.Native.Nat.{ℕ, zero, suc, _+_, _*_, _/_, _%_, _≤_, _<_}
+use mathlib.Core.List.{List}
+use Prim.Native.Nat.{ℕ, zero, suc, _+_, _*_, _/_, _%_, _≤_}
 use native.Mathlib.Nat.{zero-add, zero-mul, suc-mul}
 use native.Mathlib.Omega.{arith}
 use lib.ListN.{length}
-use Rattle.rules.specs.Bytes.{le, toLe, field, u32At, u64At}
-use Rattle.rules.specs.Memory.{Lent, lent, each, slotAt, slotsOf, cardAt, deskOf, read, joined, slotBytes, cardBytes, deskBytes, written}
+use Rattle.rules.specs.Bytes.{field, u32At, u64At}
+use Rattle.rules.specs.Memory.{Lent, each, slotAt, slotsOf, cardAt, deskOf, read, joined, slotBytes, cardBytes, deskBytes, written}
 use Rattle.rules.proofs.Bytes.{Bytes, field-all, glue, toLe-field}
 
 -- bytes of right lengths

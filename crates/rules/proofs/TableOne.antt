@@ -8,7 +8,7 @@ use lib.Bits.{bitAnd, bitOr, bitXor, xor-lt, and-le-r, and-comm}
 use lib.Dec.{eqb}
 use lib.Pow.{pow-pos}
 use borrow.Author.Tests.{eq-eqb, ne-eqb, eqb-true, eqb-false}
-use Rattle.rules.specs.Masks.{bit, off, NOT, scanMask, Masks, masks, cleared, begun, walkEnded, ended, newStatus, mOf, REMSET-MASK-INS, REMSET-MASK-UPD, LCL-ACTIVE-MASK-UPD, ACTIVE-MASK-UPD, STATUS-MASK-UPD, STATUS-MASK-SCAN-UPD, SCAN-TABLE-READ, STABLE-FLIP, SCAN-REMSET-READ}
+use Rattle.rules.specs.Masks.{bit, off, NOT, scanMask, Masks, cleared, walkEnded, mOf, REMSET-MASK-INS, LCL-ACTIVE-MASK-UPD, STATUS-MASK-UPD, SCAN-TABLE-READ, STABLE-FLIP, SCAN-REMSET-READ}
 use Rattle.rules.proofs.Bits.{bit-low, bit-zero, bit-and, bit-or, bit-xor, bit-not, bit-ext, scan-own, scan-other, scan-small}
 
 -- ---- a bit flipped, set, cleared

@@ -11,7 +11,7 @@ use borrow.Author.Tests.{lt-ltb, le-ltb}
 use Rattle.rules.specs.Calls.{first, slotIn}
 use Rattle.rules.specs.Memory.{slotsOf}
 use Rattle.laws.specs.Search.{waiting}
-use Rattle.laws.proofs.First.{first-shift, first-same, first-least, first-split-found, first-split-none}
+use Rattle.rules.proofs.First.{first-shift, first-same, first-least, first-split-found, first-split-none}
 use Rattle.laws.proofs.Slots.{count}
 use Rattle.scans.specs.declared.walk.Seen.{Seen}
 use Rattle.scans.specs.declared.walk.Walked.{Walked}

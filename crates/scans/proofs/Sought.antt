@@ -14,7 +14,7 @@ use Rattle.rules.specs.Memory.{lent, T, R, slotsOf, cardAt, deskOf, read}
 use Rattle.rules.specs.Sound.{sound}
 use Rattle.rules.proofs.Each.{length-each}
 use Rattle.laws.specs.Walks.{hitBy, hit, reach, stopAt}
-use Rattle.laws.proofs.First.{first-least, first-found, first-same}
+use Rattle.rules.proofs.First.{first-least, first-found, first-same}
 use Rattle.laws.proofs.Search.{waiting-shelf}
 use Rattle.laws.proofs.Slots.{count}
 use Rattle.desk.proofs.Says.{place-most, handed-most}

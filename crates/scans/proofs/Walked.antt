@@ -15,7 +15,7 @@ use Rattle.rules.specs.Masks.{bit, on, off}
 use Rattle.rules.specs.Memory.{slotsOf}
 use Rattle.rules.proofs.Bits.{bit-low}
 use Rattle.laws.specs.Search.{waiting}
-use Rattle.laws.proofs.First.{first-past}
+use Rattle.rules.proofs.First.{first-past}
 use Rattle.laws.proofs.Search.{waits-at}
 use Rattle.scans.specs.declared.walk.Seen.{Seen}
 use Rattle.scans.specs.declared.walk.Walked.{Walked}

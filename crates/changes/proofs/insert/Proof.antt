@@ -4,7 +4,7 @@ use Rattle.rules.specs.Answers.{changeSays}
 use Rattle.laws.proofs.Cases.{insert-zero, insert-kind}
 use Rattle.rules.specs.Memory.{lent, read}
 use Rattle.changes.proofs.Ways.{inserts-there, inserts-full, inserts}
-use Rattle.laws.proofs.First.{first-most}
+use Rattle.rules.proofs.First.{first-most}
 use Prim.Native.Nat.{_/_}
 use lib.ListN.{length}
 use Rattle.rules.specs.Memory.{slotsOf}

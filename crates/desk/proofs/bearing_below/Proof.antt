@@ -3,7 +3,7 @@ use Prim.Native.Nat.{_-_, _≤_}
 use native.Mathlib.Omega.{arith}
 use borrow.Author.Tests.{eq-eqb, ne-eqb}
 use Rattle.rules.specs.Calls.{first}
-use Rattle.laws.proofs.First.{first-start, first-hit, first-miss, first-end}
+use Rattle.rules.proofs.First.{first-start, first-hit, first-miss, first-end}
 use Rattle.desk.proofs.Position.{bears}
 use borrow.Author.Needs.{needs}
 use Rattle.desk.proofs.bearing_below.Statement.{statement}

@@ -3,7 +3,7 @@ use Prim.Native.Nat.{_-_, _≤_}
 use native.Mathlib.Omega.{arith}
 use Rattle.rules.specs.Masks.{on}
 use Rattle.rules.specs.Calls.{first}
-use Rattle.laws.proofs.First.{first-start, first-hit, first-miss, first-end}
+use Rattle.rules.proofs.First.{first-start, first-hit, first-miss, first-end}
 use Rattle.desk.proofs.Position.{free-is}
 use borrow.Author.Needs.{needs}
 use Rattle.desk.proofs.free_position.Statement.{statement}

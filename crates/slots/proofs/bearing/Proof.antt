@@ -6,7 +6,7 @@ use lib.ListN.{length}
 use Rattle.rules.specs.Calls.{first}
 use Rattle.rules.specs.Memory.{slotsOf}
 use Rattle.laws.specs.Search.{bears}
-use Rattle.laws.proofs.First.{first-hit, first-miss, first-end}
+use Rattle.rules.proofs.First.{first-hit, first-miss, first-end}
 use Rattle.laws.proofs.Search.{bears-it, bears-not}
 use borrow.Author.Needs.{needs}
 use Rattle.slots.proofs.bearing.Statement.{statement}

@@ -6,7 +6,7 @@ use lib.ListN.{length}
 use Rattle.rules.specs.Calls.{first}
 use Rattle.rules.specs.Memory.{slotsOf}
 use Rattle.laws.specs.Search.{bearsOrEmpty}
-use Rattle.laws.proofs.First.{first-hit, first-miss, first-end}
+use Rattle.rules.proofs.First.{first-hit, first-miss, first-end}
 use native.Mathlib.Nat.{sub-zero}
 use Rattle.laws.proofs.Search.{bears-or-empty-is}
 use borrow.Author.Needs.{needs}

@@ -6,7 +6,7 @@ use lib.ListN.{length}
 use Rattle.rules.specs.Calls.{first, slotIn}
 use Rattle.rules.specs.Memory.{slotsOf}
 use Rattle.laws.specs.Search.{waiting}
-use Rattle.laws.proofs.First.{first-hit, first-miss, first-end}
+use Rattle.rules.proofs.First.{first-hit, first-miss, first-end}
 use Rattle.scans.proofs.Walked.{empties-passed, bit-passed, waits-here, walked-hit, walked-spent, walked-end}
 use borrow.Author.Needs.{needs}
 use Rattle.scans.proofs.walk.walk.Statement.{statement}

@@ -1,13 +1,13 @@
--- The walk of next, as one induction: what holds before the first look holds after the last.
+-- The walk of next, turn by turn, and as one induction: what holds before the first look holds after the last.
 use mathlib.Core.Path.{_≡_, refl, sym, subst}
 use mathlib.Core.Bool.{Bool, true, false}
 use mathlib.Core.Option.{Option, none, some}
 use mathlib.Core.List.{List}
 use Prim.Native.Nat.{ℕ, zero, suc}
 use Rattle.rules.specs.Answers.{inHand, paused, finished}
 use Rattle.rules.specs.Calls.{cardOf}
 use Rattle.rules.specs.Memory.{Slot, Store, version}
 use Rattle.rules.specs.Next.{Told, told, look, atEnd, finish, walk}
 
 pub walk-stop : (S : Store) (p b l : ℕ) (o : List ℕ) → atEnd S p ≡ true → walk S p b l o ≡ told (finished l b (cardOf S p .handed)) (finish S p) o
 unfolding walk

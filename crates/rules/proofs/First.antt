@@ -102,6 +102,14 @@ first-same p q i (suc n) same = go (first-same p q (suc i) n (λ j from to. same
     go : first p (suc i) n ≡ first q (suc i) n → (t : Bool) → q i ≡ t → first p i (suc n) ≡ first q i (suc n)
     go ih true e = first-here p i n (here ∙ e) ∙ sym (first-here q i n e)
     go ih false e = first-next p i n (here ∙ e) ∙ ih ∙ sym (first-next q i n e)
+
+-- what passes is not below it
+pub first-lowest : (p : ℕ → Bool) (i n j : ℕ) → i ≤ j → p j ≡ true → first p i n ≤ j
+first-lowest p i n j from e = go (decLt j (first p i n))
+  where
+    go : Dec (j < first p i n) → first p i n ≤ j
+    go (yes h) = absurd (false≢true (sym (first-before p i n j from h) ∙ e))
+    go (no h) = omega arith
 
 -- a search from a on, by the distance from a
 pub first-shift : (p : ℕ → Bool) (a i n : ℕ) → first p (a + i) n ≡ a + first (λ j. p (a + j)) i n
