@@ -174,9 +174,14 @@ pub fn waiting(slots: &[u8], flip: u64, p: Position) -> u32
     loop {
         let run = run_in_use(slots, i, flip, p);
         n += run.waiting;
-        i = past_empty(slots, run.next, end);
+        i = run.next;
         if i + 4 > end {
             break;
+        }
+        let next = past_empty(slots, i, end);
+        if next > i {
+            i = next;
+            continue;
         }
         n += waiting_of_four(slots, i, flip, p);
         i += 4;

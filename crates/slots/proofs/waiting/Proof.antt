@@ -26,37 +26,31 @@ loop-holds c = (omega arith, omega arith, omega arith)
 
 loop-again : tie.Need-loop-again Inv-loop μ-loop Inv-loop2 μ-loop2
 loop-again c =
-    let past-empty = c .before .before .past-empty in
-    let run = c .before .before .before .before .run-in-use in
     let start = c .before .before .before .before .before .before .before in
-    let four = c .waiting-of-four in
+    let run = c .before .before .before .before .run-in-use in
+    let past-empty = c .before .past-empty in
     let passed = from-past-empty (start .args .slots .now) (start .args .flip) (start .args .p .0) (run .result .next) (past-empty .result) (past-empty .ensures .0) (past-empty .ensures .1) (past-empty .ensures .2) in
     (omega arith, omega arith, omega arith)
 
-loop2-holds : tie.Need-loop2-holds Inv-loop μ-loop Inv-loop2 μ-loop2
-loop2-holds c =
-    let past-empty = c .before .past-empty in
-    let run = c .before .before .before .run-in-use in
-    let start = c .before .before .before .before .before .before in
-    let passed = from-past-empty (start .args .slots .now) (start .args .flip) (start .args .p .0) (run .result .next) (past-empty .result) (past-empty .ensures .0) (past-empty .ensures .1) (past-empty .ensures .2) in
-    (omega arith, omega arith, omega arith)
+loop-again-2 : tie.Need-loop-again-2 Inv-loop μ-loop Inv-loop2 μ-loop2
+loop-again-2 c = (omega arith, omega arith, omega arith)
 
 loop2-again : tie.Need-loop2-again Inv-loop μ-loop Inv-loop2 μ-loop2
 loop2-again c =
-    let one-if = c .one-if in
-    let waits = c .before .waits in
-    let loop2-test = c .before .before .loop2-test in
+    let start = c .before .before .before .before .before .before .before .before .before in
     let loop2 = c .before .before .before .loop2 in
-    let start = c .before .before .before .before .before .before .before .before .before .before in
+    let loop2-test = c .before .before .loop2-test in
+    let waits = c .before .waits in
+    let one-if = c .one-if in
     let turn = from-turn (start .args .slots .now) (start .args .flip) (start .args .p .0) (loop2 .i) (loop2-test .taken) in
     let here = one-if .ensures .0 ∙ ap one (waits .ensures) in
     (omega arith, omega arith, omega arith)
 
 returns : tie.Need-returns Inv-loop μ-loop Inv-loop2 μ-loop2
 returns c =
+    let start = c .before .before .before .before .before .before .before in
     let loop2 = c .before .loop2 in
-    let start = c .before .before .before .before .before .before .before .before in
-    omega (arith, loop2 .inv .2, from-first (start .args .slots .now) (start .args .flip) (start .args .p .0), from-last (start .args .slots .now) (start .args .flip) (start .args .p .0) (loop2 .i) (omega arith))
+    omega (arith, from-first (start .args .slots .now) (start .args .flip) (start .args .p .0), from-last (start .args .slots .now) (start .args .flip) (start .args .p .0) (loop2 .i) (omega arith))
 
 pub waiting-spec : {M : Type 1} → statement M
 waiting-spec =
@@ -69,14 +63,16 @@ waiting-spec =
     loop-holds
     (λ c κs. search needs)
     (λ c. search needs)
-    (λ c κs. search needs)
     (λ c. search needs)
     (λ c κs. search needs)
-    (λ c. search needs)
-    (λ c. search needs)
     (λ c. search needs)
     loop-again
-    loop2-holds
+    (λ c κs. search needs)
+    (λ c. search needs)
+    (λ c. search needs)
+    (λ c. search needs)
+    loop-again-2
+    (λ c. search needs)
     (λ c κs. search needs)
     (λ c κs. search needs)
     (λ c. search needs)
