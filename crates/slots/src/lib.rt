@@ -109,7 +109,7 @@ pub fn used(slots: &[u8]) -> u32
     n
 }
 
-// Does the scan at p wait for the version in slot i.
+// Whether the scan at p waits for the version in slot i.
 fn waits(slots: &[u8], i: usize, flip: u64, p: Position) -> bool
     requires { ⌜ (i < length (now slots) / 64) × (p .0 < 64) ⌝ }
     ensures { λ r. ⌜ r ≡ waitingIn flip (p .0) (slotAt (now (slots .entry)) i) ⌝ }
@@ -130,13 +130,13 @@ fn waiting_of_four(slots: &[u8], i: usize, flip: u64, p: Position) -> u32
         + one_if(waits(slots, i + 3, flip, p))
 }
 
-// The versions that a scan waits for in the slots passed, and the slot reached.
+// Slots passed: the versions in them that a scan waits for, and the slot after the last.
 struct Run {
     waiting: u32,
     next: usize,
 }
 
-// Past the blocks of four slots in use from `from` on.
+// Past the blocks of four slots in use from `from` on, with the versions there that the scan at p waits for.
 fn run_in_use(slots: &[u8], from: usize, flip: u64, p: Position) -> Run
     requires { ⌜ (from ≤ length (now slots) / 64) × (length (now slots) / 64 < 4294967296) × (p .0 < 64) ⌝ }
     ensures { λ r. ⌜ (from + r .waiting ≤ r .next) × (r .next ≤ length (now (slots .entry)) / 64) × (r .waiting + waitingFrom flip (p .0) (now (slots .entry)) (r .next) ≡ waitingFrom flip (p .0) (now (slots .entry)) from) ⌝ }
