@@ -4,9 +4,10 @@ ghost use Prim.Native.Nat.{ℕ, _+_, _*_, _-_, _/_, _≤_, _<_};
 ghost use lib.ListN.{length};
 ghost use Rattle.rules.specs.Bytes.{u32At};
 ghost use Rattle.rules.specs.Calls.{first, used as usedOf, count};
-ghost use Rattle.rules.specs.Memory.{slotsOf};
+ghost use Rattle.rules.specs.Memory.{slotAt, slotsOf};
 ghost use Rattle.laws.specs.Search.{bears, bearsOrEmpty, waiting as waitingIn};
 ghost use Rattle.laws.proofs.Search.{one};
+ghost use Rattle.slots.specs.Waiting.{waitingFrom};
 use rules::Position;
 use rules::RecordNumber;
 use rules::SlotNumber;
@@ -108,6 +109,60 @@ pub fn used(slots: &[u8]) -> u32
     n
 }
 
+// Whether the scan at p waits for the version in slot i.
+fn waits(slots: &[u8], i: usize, flip: u64, p: Position) -> bool
+    requires { ⌜ (i < length (now slots) / 64) × (p .0 < 64) ⌝ }
+    ensures { λ r. ⌜ r ≡ waitingIn flip (p .0) (slotAt (now (slots .entry)) i) ⌝ }
+{
+    let at = i * 64;
+    let in_use = layout::get32(slots, at) != 0;
+    in_use & !masks::has_bit(flip ^ layout::get64(slots, at + 56), p)
+}
+
+// The versions in the four slots from i on that the scan at p waits for.
+fn waiting_of_four(slots: &[u8], i: usize, flip: u64, p: Position) -> u32
+    requires { ⌜ (i + 4 ≤ length (now slots) / 64) × (p .0 < 64) ⌝ }
+    ensures { λ r. ⌜ (r ≤ 4) × (r + waitingFrom flip (p .0) (now (slots .entry)) (i + 4) ≡ waitingFrom flip (p .0) (now (slots .entry)) i) ⌝ }
+{
+    one_if(waits(slots, i, flip, p))
+        + one_if(waits(slots, i + 1, flip, p))
+        + one_if(waits(slots, i + 2, flip, p))
+        + one_if(waits(slots, i + 3, flip, p))
+}
+
+// Slots passed: the versions in them that a scan waits for, and the slot after the last.
+struct Run {
+    waiting: u32,
+    next: usize,
+}
+
+// Past the blocks of four slots in use from `from` on, with the versions there that the scan at p waits for.
+fn run_in_use(slots: &[u8], from: usize, flip: u64, p: Position) -> Run
+    requires { ⌜ (from ≤ length (now slots) / 64) × (length (now slots) / 64 < 4294967296) × (p .0 < 64) ⌝ }
+    ensures { λ r. ⌜ (from + r .waiting ≤ r .next) × (r .next ≤ length (now (slots .entry)) / 64) × (r .waiting + waitingFrom flip (p .0) (now (slots .entry)) (r .next) ≡ waitingFrom flip (p .0) (now (slots .entry)) from) ⌝ }
+{
+    let end = slots.len() / 64;
+    let mut n: u32 = 0;
+    let mut i = from;
+    while i + 4 <= end {
+        let at = i * 64;
+        let a = layout::get32(slots, at) != 0;
+        let b = layout::get32(slots, at + 64) != 0;
+        let c = layout::get32(slots, at + 128) != 0;
+        let d = layout::get32(slots, at + 192) != 0;
+        if (a & b) & (c & d) {
+            n += waiting_of_four(slots, i, flip, p);
+            i += 4;
+        } else {
+            break;
+        }
+    }
+    Run {
+        waiting: n,
+        next: i,
+    }
+}
+
 // The versions that the scan at p waits for.
 pub fn waiting(slots: &[u8], flip: u64, p: Position) -> u32
     requires { ⌜ (length (now slots) / 64 < 4294967296) × (p .0 < 64) ⌝ }
@@ -116,14 +171,24 @@ pub fn waiting(slots: &[u8], flip: u64, p: Position) -> u32
     let end = slots.len() / 64;
     let mut n: u32 = 0;
     let mut i: usize = 0;
-    while i < end {
-        let at = i * 64;
-        i += 1;
-        if layout::get32(slots, at) == 0 {
-            i = past_empty(slots, i, end);
+    loop {
+        let run = run_in_use(slots, i, flip, p);
+        n += run.waiting;
+        i = run.next;
+        if i + 4 > end {
+            break;
+        }
+        let next = past_empty(slots, i, end);
+        if next > i {
+            i = next;
             continue;
         }
-        n += one_if(!masks::has_bit(flip ^ layout::get64(slots, at + 56), p));
+        n += waiting_of_four(slots, i, flip, p);
+        i += 4;
+    }
+    while i < end {
+        n += one_if(waits(slots, i, flip, p));
+        i += 1;
     }
     n
 }
