@@ -1,6 +1,6 @@
 -- What is looked for on the desk, by the bytes that the code reads.
 use mathlib.Core.Path.{_≡_, refl, sym, ap, _∙_}
-use mathlib.Core.Bool.{Bool}
+use mathlib.Core.Bool.{Bool, false, _||_}
 use mathlib.Core.List.{List, []}
 use Prim.Native.Nat.{ℕ, _+_, _*_, _-_, _≤_, _<_}
 use native.Mathlib.Nat.{zero-add}
@@ -12,7 +12,7 @@ use Rattle.rules.specs.Masks.{on}
 use Rattle.rules.specs.Memory.{lent, read, deskOf, cardAt, idle}
 use Rattle.rules.specs.Calls.{first, cardOf, positionOf, freePosition}
 use Rattle.rules.proofs.Each.{at-each}
-use Rattle.rules.proofs.First.{first-same, first-none, first-split-found, first-split-none}
+use Rattle.rules.proofs.First.{first-same, first-none, first-miss-four, first-split-found, first-split-none}
 
 -- the lowest position with active bit 1
 pub free-is : (d : List ℕ) {n a : ℕ} → n ≡ u32At d 0 → a ≡ u64At d 24 → first (λ i. on a i) 0 n ≡ freePosition (read (lent d [] []))
@@ -30,6 +30,18 @@ module _ (d : List ℕ) (t : ℕ) where
   position-is =
       first-same (λ i. eqb (cardOf (read (lent d [] [])) i .ticket .0) t) bears 0 64
       (λ k a b. let h : k < 64 = omega arith in ap (λ (c : Rattle.rules.specs.declared.Card.Card). eqb (c .ticket .0) t) (at-each (cardAt d) 64 k idle h))
+
+  -- a block of four cards from i on, none of which bears it
+  pub four-cards : (i n : ℕ) → i + 4 ≤ n → {x y z w : ℕ} → x ≡ u32At d (64 + i * 16) → y ≡ u32At d (64 + i * 16 + 16) → z ≡ u32At d (64 + i * 16 + 32) → w ≡ u32At d (64 + i * 16 + 48)
+      → (eqb x t || eqb y t) || (eqb z t || eqb w t) ≡ false → first bears i (n - i) ≡ first bears (i + 4) (n - (i + 4))
+  four-cards i n h a b c e none =
+      let p : 64 + (i + 1) * 16 ≡ 64 + i * 16 + 16 = omega arith in
+      let q : 64 + (i + 2) * 16 ≡ 64 + i * 16 + 32 = omega arith in
+      let r : 64 + (i + 3) * 16 ≡ 64 + i * 16 + 48 = omega arith in
+      first-miss-four bears i n h (is (sym a)) (is (ap (u32At d) p ∙ sym b)) (is (ap (u32At d) q ∙ sym c)) (is (ap (u32At d) r ∙ sym e)) none
+    where
+      is : {u v : ℕ} → u ≡ v → eqb u t ≡ eqb v t
+      is f = ap (λ (u : ℕ). eqb u t) f
 
   module _ {n i : ℕ} (e : n ≡ u32At d 0) (f : i ≡ first bears 0 n) (h : u32At d 0 ≤ 64) where
     below : n ≤ 64

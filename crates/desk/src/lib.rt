@@ -1,6 +1,6 @@
 // The desk: its cards, its masks, what is looked for on it, and whether it is sound.
 ghost use mathlib.Core.Path.{_≡_};
-ghost use Prim.Native.Nat.{ℕ, _+_, _*_, _/_, _≤_, _<_};
+ghost use Prim.Native.Nat.{ℕ, _+_, _*_, _-_, _/_, _≤_, _<_};
 ghost use mathlib.Core.List.{[]};
 ghost use lib.ListN.{length};
 ghost use lib.Dec.{eqb};
@@ -50,12 +50,33 @@ pub fn masks_at(desk: &[u8]) -> Masks
     }
 }
 
+// Past the blocks of four positions below n whose cards do not bear the ticket.
+fn past_four_cards(desk: &[u8], t: Ticket, n: u32) -> u32
+    requires { ⌜ (length (now desk) ≡ 1088) × (n ≤ 64) ⌝ }
+    ensures { λ r. ⌜ (r ≤ n) × (first (λ i. eqb (u32At (now (desk .entry)) (64 + i * 16)) (t .0)) 0 n ≡ first (λ i. eqb (u32At (now (desk .entry)) (64 + i * 16)) (t .0)) r (n - r)) ⌝ }
+{
+    let ticket = t.0;
+    let mut i: u32 = 0;
+    while i + 4 <= n {
+        let at = 64 + (i as usize) * 16;
+        let a = layout::get32(desk, at) == ticket;
+        let b = layout::get32(desk, at + 16) == ticket;
+        let c = layout::get32(desk, at + 32) == ticket;
+        let d = layout::get32(desk, at + 48) == ticket;
+        if (a | b) | (c | d) {
+            break;
+        }
+        i += 4;
+    }
+    i
+}
+
 // The lowest position below n whose card bears the ticket, or n.
 fn bearing_below(desk: &[u8], t: Ticket, n: u32) -> u32
     requires { ⌜ (length (now desk) ≡ 1088) × (n ≤ 64) ⌝ }
     ensures { λ r. ⌜ r ≡ first (λ i. eqb (u32At (now (desk .entry)) (64 + i * 16)) (t .0)) 0 n ⌝ }
 {
-    let mut i: u32 = 0;
+    let mut i = past_four_cards(desk, t, n);
     while i < n {
         if layout::get32(desk, 64 + (i as usize) * 16) == t.0 {
             return i;

@@ -53,17 +53,23 @@ module _ (l : List ℕ) (i : ℕ) (there : i + 4 ≤ length l / 64) where
   -- none bears the number
   pub four-bear-none : (k : ℕ) {a b c d : ℕ} → a ≡ u32At l (i * 64) → b ≡ u32At l (i * 64 + 64) → c ≡ u32At l (i * 64 + 128) → d ≡ u32At l (i * 64 + 192)
       → (eqb a k || eqb b k) || (eqb c k || eqb d k) ≡ false → first (bears (slotsOf l) k) i (length l / 64 - i) ≡ first (bears (slotsOf l) k) (i + 4) (length l / 64 - (i + 4))
-  four-bear-none k {a} {b} {c} {d} ea eb ec ed h =
-      let n = none-of (eqb a k) (eqb b k) (eqb c k) (eqb d k) h in
-      first-miss-four (bears (slotsOf l) k) i (length l / 64) there (bears-is l k i (omega arith) ∙ rw (← ea) (n .0)) (bears-is l k (i + 1) (omega arith) ∙ rw (← at-1, ← eb) (n .1))
-      (bears-is l k (i + 2) (omega arith) ∙ rw (← at-2, ← ec) (n .2)) (bears-is l k (i + 3) (omega arith) ∙ rw (← at-3, ← ed) (n .3))
+  four-bear-none k ea eb ec ed h =
+      first-miss-four (bears (slotsOf l) k) i (length l / 64) there (is i (omega arith) (sym ea)) (is (i + 1) (omega arith) (ap (u32At l) (sym at-1) ∙ sym eb)) (is (i + 2) (omega arith) (ap (u32At l) (sym at-2) ∙ sym ec))
+      (is (i + 3) (omega arith) (ap (u32At l) (sym at-3) ∙ sym ed)) h
     where
-      none-of : (x y z w : Bool) → (x || y) || (z || w) ≡ false → (x ≡ false) × (y ≡ false) × (z ≡ false) × (w ≡ false)
-      none-of false false false false e = (refl, refl, refl, refl)
-      none-of false false false true e = absurd (false≢true (sym e))
-      none-of false false true w e = absurd (false≢true (sym e))
-      none-of false true z w e = absurd (false≢true (sym e))
-      none-of true y z w e = absurd (false≢true (sym e))
+      is : (j : ℕ) → j < length l / 64 → {x : ℕ} → u32At l (j * 64) ≡ x → bears (slotsOf l) k j ≡ eqb x k
+      is j q e = bears-is l k j q ∙ ap (λ (x : ℕ). eqb x k) e
+
+  -- all are in use, and none bears the number
+  pub four-taken : (k : ℕ) {a b c d : ℕ} → a ≡ u32At l (i * 64) → b ≡ u32At l (i * 64 + 64) → c ≡ u32At l (i * 64 + 128) → d ≡ u32At l (i * 64 + 192)
+      → ((eqb a k || eqb a 0) || (eqb b k || eqb b 0)) || ((eqb c k || eqb c 0) || (eqb d k || eqb d 0)) ≡ false
+      → first (bearsOrEmpty (slotsOf l) k) i (length l / 64 - i) ≡ first (bearsOrEmpty (slotsOf l) k) (i + 4) (length l / 64 - (i + 4))
+  four-taken k ea eb ec ed h =
+      first-miss-four (bearsOrEmpty (slotsOf l) k) i (length l / 64) there (is i (omega arith) (sym ea)) (is (i + 1) (omega arith) (ap (u32At l) (sym at-1) ∙ sym eb)) (is (i + 2) (omega arith) (ap (u32At l) (sym at-2) ∙ sym ec))
+      (is (i + 3) (omega arith) (ap (u32At l) (sym at-3) ∙ sym ed)) h
+    where
+      is : (j : ℕ) → j < length l / 64 → {x : ℕ} → u32At l (j * 64) ≡ x → bearsOrEmpty (slotsOf l) k j ≡ eqb x k || eqb x 0
+      is j q e = bears-or-empty-is l k j q ∙ ap (λ (x : ℕ). eqb x k || eqb x 0) e
 
   -- all are empty
   pub four-empty : {a b c d : ℕ} → a ≡ u32At l (i * 64) → b ≡ u32At l (i * 64 + 64) → c ≡ u32At l (i * 64 + 128) → d ≡ u32At l (i * 64 + 192)

@@ -1,6 +1,6 @@
 -- Laws of a search for the first number that passes.
 use mathlib.Core.Path.{_≡_, refl, sym, ap, _∙_}
-use mathlib.Core.Bool.{Bool, true, false, false≢true}
+use mathlib.Core.Bool.{Bool, true, false, _||_, false≢true}
 use Prim.Native.Nat.{ℕ, zero, suc, _+_, _-_, _≤_, _<_}
 use native.Mathlib.Nat.{suc-add, add-zero, zero-add, sub-zero}
 use native.Mathlib.Numerals.{add-one}
@@ -135,16 +135,24 @@ first-none p i n f = go (decLt (first p i n) (i + n))
     go (yes d) = absurd (false≢true (sym (f (first p i n) (first-least p i n) d) ∙ first-found p i n d))
     go (no d) = omega (arith, first-most p i n)
 
--- four turns of a search up to s
-pub first-miss-four : (p : ℕ → Bool) (i s : ℕ) → i + 4 ≤ s → p i ≡ false → p (i + 1) ≡ false → p (i + 2) ≡ false → p (i + 3) ≡ false → first p i (s - i) ≡ first p (i + 4) (s - (i + 4))
-first-miss-four p i s h a b c d =
+-- four turns of a search up to s, tested at once
+pub first-miss-four : (p : ℕ → Bool) (i s : ℕ) → i + 4 ≤ s → {x y z w : Bool} → p i ≡ x → p (i + 1) ≡ y → p (i + 2) ≡ z → p (i + 3) ≡ w → (x || y) || (z || w) ≡ false → first p i (s - i) ≡ first p (i + 4) (s - (i + 4))
+first-miss-four p i s h {x} {y} {z} {w} a b c d none =
+    let m = none-of x y z w none in
     let e : i + 1 + 1 ≡ i + 2 = omega arith in
     let f : i + 2 + 1 ≡ i + 3 = omega arith in
     let g : i + 3 + 1 ≡ i + 4 = omega arith in
-    first-miss p i s (omega arith) a
-    ∙ rw e at (first-miss p (i + 1) s (omega arith) b)
-    ∙ rw f at (first-miss p (i + 2) s (omega arith) c)
-    ∙ rw g at (first-miss p (i + 3) s (omega arith) d)
+    first-miss p i s (omega arith) (a ∙ m .0)
+    ∙ rw e at (first-miss p (i + 1) s (omega arith) (b ∙ m .1))
+    ∙ rw f at (first-miss p (i + 2) s (omega arith) (c ∙ m .2))
+    ∙ rw g at (first-miss p (i + 3) s (omega arith) (d ∙ m .3))
+  where
+    none-of : (x y z w : Bool) → (x || y) || (z || w) ≡ false → (x ≡ false) × (y ≡ false) × (z ≡ false) × (w ≡ false)
+    none-of false false false false e = (refl, refl, refl, refl)
+    none-of false false false true e = absurd (false≢true (sym e))
+    none-of false false true w e = absurd (false≢true (sym e))
+    none-of false true z w e = absurd (false≢true (sym e))
+    none-of true y z w e = absurd (false≢true (sym e))
 
 -- past numbers that fail
 pub first-past : (p : ℕ → Bool) (i r s : ℕ) → i ≤ r → r ≤ s → ((j : ℕ) → i ≤ j → j < r → p j ≡ false) → first p i (s - i) ≡ first p r (s - r)

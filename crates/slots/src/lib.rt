@@ -71,13 +71,35 @@ pub fn bearing(slots: &[u8], k: RecordNumber, from: SlotNumber) -> SlotNumber
     SlotNumber(i)
 }
 
+// Past the blocks of four slots from the first on that are all in use and of which none bears the number.
+fn past_taken(slots: &[u8], number: u32) -> usize
+    ensures { λ r. ⌜ (r ≤ length (now (slots .entry)) / 64) × (first (bearsOrEmpty (slotsOf (now (slots .entry))) number) 0 (length (now (slots .entry)) / 64) ≡ first (bearsOrEmpty (slotsOf (now (slots .entry))) number) r (length (now (slots .entry)) / 64 - r)) ⌝ }
+{
+    let end = slots.len() / 64;
+    let mut i: usize = 0;
+    while i + 4 <= end {
+        let at = i * 64;
+        let a = layout::get32(slots, at);
+        let b = layout::get32(slots, at + 64);
+        let c = layout::get32(slots, at + 128);
+        let d = layout::get32(slots, at + 192);
+        let ab = ((a == number) | (a == 0)) | ((b == number) | (b == 0));
+        let cd = ((c == number) | (c == 0)) | ((d == number) | (d == 0));
+        if ab | cd {
+            break;
+        }
+        i += 4;
+    }
+    i
+}
+
 // The lowest slot that bears the number or is empty, or the count of slots.
 pub fn bearing_or_empty(slots: &[u8], k: RecordNumber) -> SlotNumber
     ensures { λ r. ⌜ r .0 ≡ first (bearsOrEmpty (slotsOf (now (slots .entry))) (k .0)) 0 (length (now (slots .entry)) / 64) ⌝ }
 {
     let end = slots.len() / 64;
     let number = k.0;
-    let mut i: usize = 0;
+    let mut i = past_taken(slots, number);
     while i < end {
         let n = layout::get32(slots, i * 64);
         if (n == number) | (n == 0) {

@@ -3,7 +3,7 @@ use Prim.Native.Nat.{_-_, _≤_}
 use native.Mathlib.Omega.{arith}
 use borrow.Author.Tests.{eq-eqb, ne-eqb}
 use Rattle.rules.specs.Calls.{first}
-use Rattle.rules.proofs.First.{first-start, first-hit, first-miss, first-end}
+use Rattle.rules.proofs.First.{first-hit, first-miss, first-end}
 use Rattle.desk.proofs.Position.{bears}
 use borrow.Author.Needs.{needs}
 use Rattle.desk.proofs.bearing_below.Statement.{statement}
@@ -17,13 +17,13 @@ abbrev μ-loop : tie.MeasureT-loop
 
 loop-holds : tie.Need-loop-holds Inv-loop μ-loop
 loop-holds c =
-    let start = c .before in
-    (search needs, first-start (bears (start .args .desk .now) (start .args .t .0)) (start .args .n))
+    let past-four-cards = c .past-four-cards in
+    (past-four-cards .ensures .0, past-four-cards .ensures .1)
 
 returns : tie.Need-returns Inv-loop μ-loop
 returns c =
     let loop = c .before .before .before .before .loop in
-    let start = c .before .before .before .before .before .before in
+    let start = c .before .before .before .before .before .before .before in
     let loop-test = c .before .before .before .loop-test in
     let get32 = c .before .before .get32 in
     let if1 = c .if1 in
@@ -32,7 +32,7 @@ returns c =
 loop-again : tie.Need-loop-again Inv-loop μ-loop
 loop-again c =
     let loop = c .before .before .before .before .loop in
-    let start = c .before .before .before .before .before .before in
+    let start = c .before .before .before .before .before .before .before in
     let loop-test = c .before .before .before .loop-test in
     let if1 = c .if1 in
     let get32 = c .before .before .get32 in
@@ -41,7 +41,7 @@ loop-again c =
 returns-2 : tie.Need-returns-2 Inv-loop μ-loop
 returns-2 c =
     let loop = c .before .loop in
-    let start = c .before .before .before in
+    let start = c .before .before .before .before in
     let loop-test = c .loop-test in
     sym (loop .inv .1 ∙ first-end (bears (start .args .desk .now) (start .args .t .0)) (loop .i) (start .args .n) (loop-test .left))
 
@@ -51,6 +51,7 @@ bearing-below-spec =
     (tie.spec
     Inv-loop
     μ-loop
+    (λ c κs. search needs)
     loop-holds
     (λ c. search needs)
     (λ c. search needs)

@@ -7,7 +7,6 @@ use Rattle.rules.specs.Calls.{first}
 use Rattle.rules.specs.Memory.{slotsOf}
 use Rattle.laws.specs.Search.{bearsOrEmpty}
 use Rattle.rules.proofs.First.{first-hit, first-miss, first-end}
-use native.Mathlib.Nat.{sub-zero}
 use Rattle.laws.proofs.Search.{bears-or-empty-is}
 use borrow.Author.Needs.{needs}
 use Rattle.slots.proofs.bearing_or_empty.Statement.{statement}
@@ -21,13 +20,13 @@ abbrev μ-loop : tie.MeasureT-loop
 
 loop-holds : tie.Need-loop-holds Inv-loop μ-loop
 loop-holds c =
-    let start = c .before in
-    (search needs, rw (sub-zero (length (start .args .slots .now) / 64)) refl)
+    let past-taken = c .past-taken in
+    (past-taken .ensures .0, past-taken .ensures .1)
 
 loop-again : tie.Need-loop-again Inv-loop μ-loop
 loop-again c =
     let loop = c .before .before .before .loop in
-    let start = c .before .before .before .before .before in
+    let start = c .before .before .before .before .before .before in
     let loop-test = c .before .before .loop-test in
     let get32 = c .before .get32 in
     let if1 = c .if1 in
@@ -36,13 +35,13 @@ loop-again c =
 returns : tie.Need-returns Inv-loop μ-loop
 returns c =
     let loop = c .before .loop in
-    let start = c .before .before .before in
+    let start = c .before .before .before .before in
     sym (loop .inv .1 ∙ first-end (bearsOrEmpty (slotsOf (start .args .slots .now)) (start .args .k .0)) (loop .i) (length (start .args .slots .now) / 64) (omega arith))
 
 returns-2 : tie.Need-returns-2 Inv-loop μ-loop
 returns-2 c =
     let loop = c .before .before .before .loop in
-    let start = c .before .before .before .before .before in
+    let start = c .before .before .before .before .before .before in
     let loop-test = c .before .before .loop-test in
     let get32 = c .before .get32 in
     let if1 = c .if1 in
@@ -54,6 +53,7 @@ bearing-or-empty-spec =
     (tie.spec
     Inv-loop
     μ-loop
+    (λ c κs. search needs)
     loop-holds
     (λ c. search needs)
     (λ c κs. search needs)
