@@ -1,10 +1,12 @@
 -- The ways that the code tests the card of a position, and those of eight.
-use mathlib.Core.Path.{_≡_, sym, _∙_}
-use mathlib.Core.Bool.{Bool, true, false, not, and-true}
+use mathlib.Core.Path.{_≡_, refl, sym, ap, _∙_}
+use mathlib.Core.Bool.{Bool, true, false, not, _&&_, and-true}
 use mathlib.Core.List.{List}
 use Prim.Native.Nat.{ℕ, _+_, _*_, _/_, _%_, _^_, _≤_, _<_}
+use native.Mathlib.Nat.{add-zero, zero-add}
 use native.Mathlib.Omega.{arith}
 use lib.Bits.{bitAnd}
+use lib.Dec.{eqb}
 use borrow.Author.Tests.{eqb-true, eqb-false}
 use Rattle.rules.specs.declared.Card.{Card}
 use Rattle.rules.specs.Masks.{bit, on, NOT}
@@ -15,16 +17,20 @@ use Rattle.masks.specs.Held.{held}
 use Rattle.desk.specs.Every.{every}
 use Rattle.desk.specs.Words.{zeroWords}
 use Rattle.desk.specs.Cards.{busyHolds, cardHolds}
-use Rattle.desk.proofs.MaskBits.{byte-on}
+use Rattle.desk.proofs.Every.{every-more, every-same, every-shift}
+use Rattle.desk.proofs.MaskBits.{byte-bit, byte-on, byte-off}
 use Rattle.desk.proofs.OneCard.{busy-is}
 use Rattle.desk.proofs.AllCards.{idle-run}
 
 module _ (d : List ℕ) (m : Masks) (t r last i : ℕ) where
+  pub busy-here : {l y : Bool} {c : Card} → bit (m .active) i ≡ 0 → c ≡ cardAt d i → l ≡ on (m .local) i → y ≡ busyHolds c (not l) last t r → y ≡ cardHolds d (held m) t r last i
+  busy-here o c l y = y ∙ rw (c, l, not-on (m .local) i) (sym (busy-is d (held m) t r last i o))
+
   pub busy-case : {o l y : Bool} {c : Card} → o ≡ on (m .active) i → o ≡ false → c ≡ cardAt d i → l ≡ on (m .local) i
       → y ≡ busyHolds c (not l) last t r → y ≡ cardHolds d (held m) t r last i
   busy-case e f c l y =
       let n : bit (m .active) i ≡ 1 → ⊥ = eqb-false (bit (m .active) i) 1 (sym e ∙ f) in
-      y ∙ rw (c, l, not-on (m .local) i) (sym (busy-is d (held m) t r last i (omega (arith, bit-low (m .active) i))))
+      busy-here (omega (arith, bit-low (m .active) i)) c l y
 
   module _ (s : m .local < 2 ^ 64) (x : bitAnd (m .active) (NOT 64 (m .local)) ≡ 0) where
     pub idle-case : {o y : Bool} → i < 64 → o ≡ on (m .active) i → o ≡ true → y ≡ zeroWords d (8 + i * 2) (8 + i * 2 + 2) → y ≡ cardHolds d (held m) t r last i
@@ -36,4 +42,21 @@ module _ (d : List ℕ) (m : Masks) (t r last i : ℕ) where
 
     -- eight idle positions from i on
     pub eight-case : {y : Bool} → i + 8 ≤ 64 → m .active / 2 ^ i % 256 ≡ 255 → y ≡ zeroWords d (8 + i * 2) (8 + i * 2 + 16) → y ≡ every (cardHolds d (held m) t r last) i 8
-    eight-case h o y = y ∙ idle-run d (held m) t r last s x i 8 h (λ k a b. byte-on (m .active) i k o a b)
+    eight-case h o y = y ∙ idle-run d (held m) t r last s x i 8 h (λ k a b. byte-on (m .active) i k a b o)
+
+-- ---- eight busy positions from p on, by a byte of the local active mask
+
+module _ (d : List ℕ) (local t r last p : ℕ) where
+  -- the j-th of them
+  abbrev pub busyAt : ℕ → Bool
+  busyAt j = busyHolds (cardAt d (p + j)) (not (on local j)) last t r
+
+  -- a loop that has come to the i-th
+  pub busy-turn : (i : ℕ) {x l y : Bool} {c : Card} → x ≡ every busyAt 0 i → c ≡ cardAt d (p + i) → l ≡ on local i → y ≡ busyHolds c (not l) last t r → x && y ≡ every busyAt 0 (i + 1)
+  busy-turn i e c l y = sym (every-more busyAt 0 i ∙ rw (zero-add i, ← e, y, c, l) refl)
+
+pub eight-busy-case : (d : List ℕ) (m : Masks) (t r last p : ℕ) → m .active / 2 ^ p % 256 ≡ 0 → every (busyAt d (m .local / 2 ^ p % 256) t r last p) 0 8 ≡ every (cardHolds d (held m) t r last) p 8
+eight-busy-case d m t r last p o =
+    every-same (busyAt d (m .local / 2 ^ p % 256) t r last p) (λ j. cardHolds d (held m) t r last (p + j)) 0 8
+    (λ j a b. busy-here d m t r last (p + j) (byte-off (m .active) p (p + j) (omega arith) (omega arith) o) refl (ap (λ (x : ℕ). eqb x 1) (byte-bit (m .local) p j (omega arith))) refl)
+    ∙ every-shift (cardHolds d (held m) t r last) p 0 8 ∙ ap (λ (k : ℕ). every (cardHolds d (held m) t r last) k 8) (add-zero p)

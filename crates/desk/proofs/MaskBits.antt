@@ -24,13 +24,24 @@ bit-low-part x w i h =
     let e : w ≡ j + 1 + i = omega arith in
     rw (e, field x (j + 1) i) (mod-mod-pow (x / 2 ^ i) j 1)
 
--- a whole byte of ones
-pub byte-on : (x k i : ℕ) → x / 2 ^ k % 256 ≡ 255 → k ≤ i → i < k + 8 → bit x i ≡ 1
+-- a byte of a mask has its bits
+pub byte-bit : (x k i : ℕ) → i < 8 → bit (x / 2 ^ k % 256) i ≡ bit x (k + i)
 unfolding bit
-byte-on x k i e h b =
-    let f : k + (i - k) ≡ i = omega arith in
-    let g : bit x i ≡ bit (x / 2 ^ k) (i - k) = rw (shr-shr x k (i - k), f) refl in
-    g ∙ sym (bit-low-part (x / 2 ^ k) 8 (i - k) (omega arith)) ∙ ap (λ (y : ℕ). bit y (i - k)) e ∙ bit-ones 8 (i - k) (omega arith)
+byte-bit x k i h = bit-low-part (x / 2 ^ k) 8 i h ∙ shifted
+  where
+    shifted : bit (x / 2 ^ k) i ≡ bit x (k + i)
+    shifted = rw (shr-shr x k i) refl
+
+-- a whole byte of ones, of zeros
+module _ (x k i : ℕ) (h : k ≤ i) (b : i < k + 8) where
+  in-byte : bit x i ≡ bit (x / 2 ^ k % 256) (i - k)
+  in-byte = let f : k + (i - k) ≡ i = omega arith in sym (byte-bit x k (i - k) (omega arith) ∙ ap (bit x) f)
+
+  pub byte-on : x / 2 ^ k % 256 ≡ 255 → bit x i ≡ 1
+  byte-on e = in-byte ∙ ap (λ (y : ℕ). bit y (i - k)) e ∙ bit-ones 8 (i - k) (omega arith)
+
+  pub byte-off : x / 2 ^ k % 256 ≡ 0 → bit x i ≡ 0
+  byte-off e = in-byte ∙ ap (λ (y : ℕ). bit y (i - k)) e ∙ bit-zero (i - k)
 
 -- `active & !local == 0` says that every idle position's local active bit is 1
 module _ (a l : ℕ) (s : l < 2 ^ 64) where

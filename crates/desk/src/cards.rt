@@ -1,6 +1,6 @@
-// The rules of the cards: idle ones by whole words, eight at a time where all eight are idle.
+// The rules of the cards, eight at a time where all eight are idle, by whole words, or all busy.
 ghost use mathlib.Core.Path.{_≡_};
-ghost use Prim.Native.Nat.{_+_, _*_, _<_};
+ghost use Prim.Native.Nat.{_+_, _*_, _/_, _%_, _^_, _≤_, _<_};
 ghost use lib.Bits.{bitAnd};
 ghost use lib.Dec.{ltb};
 ghost use lib.ListN.{length};
@@ -53,6 +53,23 @@ fn card_sound(desk: &[u8], m: Masks, p: Position, last: u32, t: usize, r: usize)
     )
 }
 
+// The cards of the eight positions from p on, each with a scan.
+fn eight_busy_sound(desk: &[u8], m: Masks, p: u32, last: u32, t: usize, r: usize) -> bool
+    requires { ⌜ (length (now desk) ≡ 1088) × (p + 8 ≤ 64) × (t + r < 4294967296) × (m .active / 2 ^ p % 256 ≡ 0) ⌝ }
+    ensures { λ b. ⌜ b ≡ every (cardHolds (now (desk .entry)) (held m) t r last) p 8 ⌝ }
+{
+    let local = (m.local >> p) % 256;
+    let mut sound = true;
+    let mut i: u32 = 0;
+    while i < 8 {
+        let card = crate::card_at(desk, Position(p + i));
+        let low = !masks::has_bit(local, Position(i));
+        sound = sound & busy_sound(card, low, last, t, r);
+        i += 1;
+    }
+    sound
+}
+
 // The cards of the eight positions of group g.
 fn eight_sound(desk: &[u8], m: Masks, g: u32, last: u32, t: usize, r: usize) -> bool
     requires { ⌜ (length (now desk) ≡ 1088) × (g < 8) × (t + r < 4294967296) × (bitAnd (m .active) (NOT 64 (m .local)) ≡ 0) ⌝ }
@@ -62,6 +79,9 @@ fn eight_sound(desk: &[u8], m: Masks, g: u32, last: u32, t: usize, r: usize) -> 
     if (m.active >> p) % 256 == 255 {
         let word = 8 + (p as usize) * 2;
         return words::zero_words(desk, word, word + 16);
+    }
+    if (m.active >> p) % 256 == 0 {
+        return eight_busy_sound(desk, m, p, last, t, r);
     }
     let mut sound = true;
     let mut i = p;

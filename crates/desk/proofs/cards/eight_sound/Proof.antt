@@ -25,20 +25,25 @@ returns c =
 
 loop-holds : tie.Need-loop-holds Inv-loop μ-loop
 loop-holds c =
-    let start = c .before .before .before in
+    let start = c .before .before .before .before .before in
     (search needs, search needs, every-start (cardHolds (start .args .desk .now) (held (start .args .m)) (start .args .t) (start .args .r) (start .args .last)) (start .args .g * 8) (start .args .g * 8))
 
 loop-again : tie.Need-loop-again Inv-loop μ-loop
 loop-again c =
-    let start = c .before .before .before .before .before .before in
+    let start = c .before .before .before .before .before .before .before .before in
     let loop = c .before .before .loop in
     let card-sound = c .card-sound in
     (omega arith, omega arith, every-step (cardHolds (start .args .desk .now) (held (start .args .m)) (start .args .t) (start .args .r) (start .args .last)) (start .args .g * 8) (loop .i) (loop .inv .0) (loop .inv .2) (card-sound .ensures))
 
 returns-2 : tie.Need-returns-2 Inv-loop μ-loop
 returns-2 c =
+    let eight-busy-sound = c .eight-busy-sound in
+    eight-busy-sound .ensures
+
+returns-3 : tie.Need-returns-3 Inv-loop μ-loop
+returns-3 c =
     let loop = c .before .loop in
-    let start = c .before .before .before .before .before in
+    let start = c .before .before .before .before .before .before .before in
     let e : loop .i - start .args .g * 8 ≡ 8 = omega arith in loop .inv .2 ∙ ap (λ (k : ℕ). every (cardHolds (start .args .desk .now) (held (start .args .m)) (start .args .t) (start .args .r) (start .args .last)) (start .args .g * 8) k) e
 
 pub eight-sound-spec : {M : Type 1} → statement M
@@ -56,10 +61,14 @@ eight-sound-spec =
     (λ c. search needs)
     (λ c κs. search needs)
     returns
+    (λ c. search needs)
+    (λ c. search needs)
+    (λ c κs. search needs)
+    returns-2
     loop-holds
     (λ c. search needs)
     (λ c κs. search needs)
     (λ c. search needs)
     (λ c. search needs)
     loop-again
-    returns-2)
+    returns-3)
