@@ -43,6 +43,10 @@ module _ (d : List ℕ) (t : ℕ) where
       is : {u v : ℕ} → u ≡ v → eqb u t ≡ eqb v t
       is f = ap (λ (u : ℕ). eqb u t) f
 
+  -- none bears it
+  pub position-nowhere : ((k : ℕ) → k < 64 → u32At d (64 + k * 16) ≡ t → ⊥) → 64 ≡ positionOf (read (lent d [] [])) t
+  position-nowhere f = sym (position-is ∙ first-none bears 0 64 (λ k a b. ne-eqb (u32At d (64 + k * 16)) t (f k (omega arith))))
+
   module _ {n i : ℕ} (e : n ≡ u32At d 0) (f : i ≡ first bears 0 n) (h : u32At d 0 ≤ 64) where
     below : n ≤ 64
     below = omega arith

@@ -55,17 +55,25 @@ module _ (d t s : List ℕ) (ok : sound (read (lent d t s)) ≡ true) where
       every-at (cardHolds d (masksOf d) (length t / 64) (length s / 64) (u32At d 12)) 0 64
       (and-right (holds (headRules (deskOf d) (length t / 64) (length s / 64))) _ both) p (omega arith) (omega arith)
 
-  -- no card from N up bears a ticket
-  pub high-idle : (k g : ℕ) → (g ≡ 0 → ⊥) → u32At d 0 ≤ k → k < 64 → u32At d (64 + k * 16) ≡ g → ⊥
+  -- the card of a position with active bit 1 bears no ticket
+  free-idle : (k g : ℕ) → (g ≡ 0 → ⊥) → k < 64 → bit (u64At d 24) k ≡ 1 → u32At d (64 + k * 16) ≡ g → ⊥
   unfolding cardRules holds
-  high-idle k g z lo hi e =
-      let a : on (masksOf d .active) k ≡ true = eq-eqb _ _ (high-on (u32At d 0) (masksOf d .active) k high-active lo hi) in
+  free-idle k g z hi one e =
+      let a : on (masksOf d .active) k ≡ true = eq-eqb _ _ one in
       let c = and-left (same (eqb (u32At d (64 + k * 16)) 0) (on (masksOf d .active) k)) _ (card-holds k hi) in
       z (sym e ∙ eqb-true (u32At d (64 + k * 16)) 0 (idle (eqb (u32At d (64 + k * 16)) 0) (rw a at c)))
     where
       idle : (b : Bool) → same b true ≡ true → b ≡ true
       idle true h = refl
       idle false h = h
+
+  -- no card from N up bears one
+  pub high-idle : (k g : ℕ) → (g ≡ 0 → ⊥) → u32At d 0 ≤ k → k < 64 → u32At d (64 + k * 16) ≡ g → ⊥
+  high-idle k g z lo hi e = free-idle k g z hi (high-on (u32At d 0) (masksOf d .active) k high-active lo hi) e
+
+  -- where no scan runs no card does
+  pub none-busy : (g : ℕ) → (g ≡ 0 → ⊥) → u64At d 24 ≡ ones 64 → (k : ℕ) → k < 64 → u32At d (64 + k * 16) ≡ g → ⊥
+  none-busy g z all k hi e = free-idle k g z hi (ap (λ (x : ℕ). bit x k) all ∙ bit-ones 64 k hi) e
 
   -- the card of a running scan
   module _ (p : ℕ) (below : p < 64) (busy : cardAt d p .ticket .0 ≡ 0 → ⊥) where

@@ -4,7 +4,8 @@ ghost use Prim.Native.Nat.{ℕ, _+_, _*_, _-_, _/_, _≤_, _<_};
 ghost use mathlib.Core.List.{[]};
 ghost use lib.ListN.{length};
 ghost use lib.Dec.{eqb};
-ghost use Rattle.rules.specs.Bytes.{u32At};
+ghost use Rattle.rules.specs.Bytes.{u32At, u64At};
+ghost use Rattle.rules.specs.Masks.{ones};
 ghost use Rattle.rules.specs.Memory.{lent, read, cardAt, masksOf};
 ghost use Rattle.rules.specs.Sound.{sound};
 ghost use Rattle.rules.specs.Calls.{first, positionOf, freePosition};
@@ -86,11 +87,14 @@ fn bearing_below(desk: &[u8], t: Ticket, n: u32) -> u32
     i
 }
 
-// The lowest position whose card bears the ticket, or 64. Looks below N only.
+// The lowest position whose card bears the ticket, or 64. Looks below N only, and nowhere if no scan runs.
 pub fn position_of(desk: &[u8], t: Ticket) -> Position
-    requires { ⌜ (length (now desk) ≡ 1088) × (u32At (now desk) 0 ≤ 64) × ((k : ℕ) → u32At (now desk) 0 ≤ k → k < 64 → u32At (now desk) (64 + k * 16) ≡ t .0 → ⊥) ⌝ }
+    requires { ⌜ (length (now desk) ≡ 1088) × (u32At (now desk) 0 ≤ 64) × ((k : ℕ) → u32At (now desk) 0 ≤ k → k < 64 → u32At (now desk) (64 + k * 16) ≡ t .0 → ⊥) × (u64At (now desk) 24 ≡ ones 64 → (k : ℕ) → k < 64 → u32At (now desk) (64 + k * 16) ≡ t .0 → ⊥) ⌝ }
     ensures { λ r. ⌜ r .0 ≡ positionOf (read (lent (now (desk .entry)) [] [])) (t .0) ⌝ }
 {
+    if layout::get64(desk, 24) == Masks::ALL_ONES {
+        return Position(64);
+    }
     let n = layout::get32(desk, 0);
     let i = bearing_below(desk, t, n);
     if i < n { Position(i) } else { Position(64) }

@@ -3,7 +3,7 @@ use native.Mathlib.Omega.{arith}
 use Rattle.rules.specs.Answers.{nextSays}
 use Rattle.rules.specs.Memory.{lent, slotsOf, read}
 use Rattle.laws.proofs.Cases.{next-zero}
-use Rattle.desk.proofs.Says.{n-most, high-idle}
+use Rattle.desk.proofs.Says.{n-most, high-idle, none-busy}
 use Rattle.scans.specs.Walked.{hitIn}
 use Rattle.scans.proofs.Sought.{record-some, record-fits, spent-fits, end-at, scan-fits, scan-handed}
 use Rattle.scans.proofs.Nexts.{nexts-none, nexts-record, nexts-spent, nexts-end}
@@ -22,7 +22,7 @@ position-of-requires : tie.Need-position-of-requires
 position-of-requires c κs =
     let start = c .before .before .before .before .before .before .before in
     let if1 = c .before .if1 in
-    (start .pre .0, n-most (start .args .desk .now) (start .args .table .now) (start .args .shelf .now) (start .pre .3), λ i lo hi. high-idle (start .args .desk .now) (start .args .table .now) (start .args .shelf .now) (start .pre .3) i (start .args .t .0) (if1 .left) lo hi)
+    (start .pre .0, n-most (start .args .desk .now) (start .args .table .now) (start .args .shelf .now) (start .pre .3), λ i lo hi. high-idle (start .args .desk .now) (start .args .table .now) (start .args .shelf .now) (start .pre .3) i (start .args .t .0) (if1 .left) lo hi, none-busy (start .args .desk .now) (start .args .table .now) (start .args .shelf .now) (start .pre .3) (start .args .t .0) (if1 .left))
 
 seek-requires : tie.Need-seek-requires
 seek-requires c κs =

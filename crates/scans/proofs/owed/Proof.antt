@@ -4,7 +4,7 @@ use Rattle.rules.specs.Answers.{owedSays}
 use Rattle.laws.proofs.Cases.{owed-zero}
 use Rattle.scans.proofs.Ways.{owes-none, owes}
 use Rattle.rules.specs.Memory.{lent, read}
-use Rattle.desk.proofs.Says.{n-most, high-idle}
+use Rattle.desk.proofs.Says.{n-most, high-idle, none-busy}
 use Rattle.laws.proofs.Search.{count-most}
 use Rattle.laws.proofs.Slots.{count}
 use Rattle.laws.specs.Search.{waiting as waits}
@@ -24,7 +24,7 @@ position-of-requires : tie.Need-position-of-requires
 position-of-requires c κs =
     let start = c .before .before .before .before .before in
     let if1 = c .if1 in
-    (start .pre .0, n-most (start .args .desk .now) (start .args .table .now) (start .args .shelf .now) (start .pre .2), λ k lo hi. high-idle (start .args .desk .now) (start .args .table .now) (start .args .shelf .now) (start .pre .2) k (start .args .t .0) (if1 .left) lo hi)
+    (start .pre .0, n-most (start .args .desk .now) (start .args .table .now) (start .args .shelf .now) (start .pre .2), λ k lo hi. high-idle (start .args .desk .now) (start .args .table .now) (start .args .shelf .now) (start .pre .2) k (start .args .t .0) (if1 .left) lo hi, none-busy (start .args .desk .now) (start .args .table .now) (start .args .shelf .now) (start .pre .2) (start .args .t .0) (if1 .left))
 
 add-t10 : tie.Need-add-t10
 add-t10 c =

@@ -1,6 +1,6 @@
 use native.Mathlib.Omega.{arith}
 use Rattle.rules.specs.Memory.{lent, slotsOf, read}
-use Rattle.desk.proofs.Says.{n-most, high-idle}
+use Rattle.desk.proofs.Says.{n-most, high-idle, none-busy}
 use Rattle.scans.specs.Walked.{hitIn}
 use Rattle.scans.proofs.Sought.{record-some, scan-fits}
 use Rattle.scans.proofs.Peeks.{place-zero, place-none, place-table, place-shelf, place-spent, place-end}
@@ -18,7 +18,7 @@ position-of-requires : tie.Need-position-of-requires
 position-of-requires c κs =
     let start = c .before .before .before .before .before in
     let if1 = c .if1 in
-    (start .pre .0, n-most (start .args .desk .now) (start .args .table .now) (start .args .shelf .now) (start .pre .2), λ i lo hi. high-idle (start .args .desk .now) (start .args .table .now) (start .args .shelf .now) (start .pre .2) i (start .args .t .0) (if1 .left) lo hi)
+    (start .pre .0, n-most (start .args .desk .now) (start .args .table .now) (start .args .shelf .now) (start .pre .2), λ i lo hi. high-idle (start .args .desk .now) (start .args .table .now) (start .args .shelf .now) (start .pre .2) i (start .args .t .0) (if1 .left) lo hi, none-busy (start .args .desk .now) (start .args .table .now) (start .args .shelf .now) (start .pre .2) (start .args .t .0) (if1 .left))
 
 seek-requires : tie.Need-seek-requires
 seek-requires c κs =
