@@ -6,10 +6,12 @@
 static const uint8_t body[BODY_BYTES] = { 1, 2, 3, 4, 1, 6, 7, 8 };
 static const uint8_t bad_kind[BODY_BYTES] = { 0 };
 
-/* Each call as it would be accepted, then as a higher number would refuse it: 1 comes before them all. */
+/* Each call as it would be accepted, then as a higher number would refuse it: 1 comes before them all. Begin first: a program that
+ * takes a wrong length for a right one then differs before it reads or writes that far. */
 static size_t every_call(struct call *calls)
 {
     size_t k = 0;
+    calls[k++] = call_begin();
     calls[k++] = call_open(3);
     calls[k++] = call_open(0);
     calls[k++] = call_insert(9, body);
@@ -21,7 +23,6 @@ static size_t every_call(struct call *calls)
     calls[k++] = call_modify(9, body);
     calls[k++] = call_delete(7);
     calls[k++] = call_delete(9);
-    calls[k++] = call_begin();
     calls[k++] = call_next(1, 0);
     calls[k++] = call_next(1, UNBOUNDED);
     calls[k++] = call_next(0, 1);
