@@ -51,6 +51,7 @@ pub record Places : Type 0 where
 abbrev pub places : List (Option Version) → List (Option Version) → List (Option ℕ) → Places
 places t s q = record { table = t; shelf = s; positions = q }
 
+-- the place of the version of number k
 abbrev pub bears : ℕ → Option Version → Bool
 bears k none = false
 bears k (some v) = numbered k v
@@ -70,6 +71,7 @@ module _ (P : Placing) where
   abbrev pub replace : History → Places → ℕ → Option Version → Places
   replace h p k new = places (set (p .table) (placeOf (p .table) k) new) (shelve h (p .shelf) (getD (p .table) (placeOf (p .table) k) none)) (p .positions)
 
+  -- a scan that begins takes a position
   abbrev pub sit : Answer → Places → Places
   sit Answer.done p = p
   sit (Answer.begun t) p = places (p .table) (p .shelf) (set (p .positions) (P .scan (p .positions)) (some t))
