@@ -6,7 +6,9 @@ use mathlib.Core.Bool.{true}
 use mathlib.Core.Option.{none, some}
 use Prim.Native.Nat.{ℕ}
 use lib.ListN.{length}
-use Rattle.demands.specs.Machine.{Machine, Well, LentBytes, LengthsRight}
+use Rattle.demands.specs.Fits.{Fits}
+use Rattle.rules.specs.Passed.{Passed, Well, LentBytes, LengthsRight}
+use Rattle.demands.specs.Machine.{Machine}
 use Rattle.rules.specs.Answers.{Answer, number}
 use Rattle.rules.specs.Memory.{Lent, read}
 use Rattle.rules.specs.Refusals.{Call, Reply, firstOf, refusals, refusedAs, outOf}
@@ -24,12 +26,18 @@ pub record SameLengths (l m : Lent) : Type 0 where
 
 pub record Demand1 (M : Machine) : Type 0 where
   -- a line of document 01's table holds: the lowest is answered, and nothing moves
-  pub refuses : (l : Lent) (c : Call) (k : ℕ) → LentBytes l → Well c → firstOf (refusals l c) ≡ some k → (M l c .answer ≡ refusedAs c k) × Untouched l c (M l c)
+  pub refuses : (l : Lent) (c : Call) (k : ℕ) → LentBytes l → Well c → firstOf (refusals l c) ≡ some k
+      → (M l c .answer ≡ refusedAs c k) × Untouched l c (M l c)
   -- none holds: no refusal is answered
   pub accepts : (l : Lent) (c : Call) (k : ℕ) → LentBytes l → Well c → firstOf (refusals l c) ≡ none → M l c .answer ≡ Answer.refused k → ⊥
+  -- and every answer is of the call's own kind, and in its ranges
+  pub fits : (l : Lent) (c : Call) → LentBytes l → Well c → Fits c (M l c .answer)
   -- "Every answer but 0 leaves the hand-out buffer untouched."
   pub leavesOut : (l : Lent) (c : Call) → LentBytes l → Well c → (number (M l c .answer) ≡ 0 → ⊥) → M l c .out ≡ outOf c
-  -- buffers keep their lengths, and a desk that was sound, or that is opened, is sound after the call
+  -- buffers keep their lengths, and hold bytes
   pub lengths : (l : Lent) (c : Call) → LentBytes l → Well c → SameLengths l (M l c .after)
-  pub staysSound : (l : Lent) (c : Call) → LentBytes l → Well c → LengthsRight l → sound (read l) ≡ true → sound (read (M l c .after)) ≡ true
   pub bytes : (l : Lent) (c : Call) → LentBytes l → Well c → LentBytes (M l c .after)
+  -- a desk that was sound stays sound, and one that is opened is sound, whatever stood there
+  pub staysSound : (l : Lent) (c : Call) → LentBytes l → Well c → LengthsRight l → sound (read l) ≡ true → sound (read (M l c .after)) ≡ true
+  pub opensSound : (l : Lent) (n : ℕ) → LentBytes l → Passed n → M l (Call.opening n) .answer ≡ Answer.done
+      → sound (read (M l (Call.opening n) .after)) ≡ true

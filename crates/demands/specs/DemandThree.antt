@@ -7,7 +7,8 @@ use mathlib.Core.List.{List}
 use Prim.Native.Nat.{ℕ, _*_, _≤_, _<_}
 use lib.ListN.{length, getD}
 use Rattle.demands.specs.History.{Version, needed}
-use Rattle.demands.specs.Lists.{All, Permutation, standing}
+use Rattle.rules.specs.Passed.{All}
+use Rattle.demands.specs.Lists.{Permutation, standing}
 use Rattle.demands.specs.Lives.{Opening, tableSlots, shelfEntries, Accepted, bytesAfter, past}
 use Rattle.demands.specs.Machine.{Machine, Within}
 use Rattle.rules.specs.Answers.{Answer}
@@ -35,9 +36,11 @@ pub record Demand3 (M : Machine) : Type 0 where
 -- "So a shelf with at least as many entries as scan positions times table slots never turns a change away for want of room."
 unfoldable pub AlwaysRoom : Machine → Type 0
 AlwaysRoom M =
-    (o : Opening) → o .n * tableSlots o ≤ shelfEntries o → (cs : List Call) → All Within cs → (c : Call) → Within c → M (bytesAfter M o cs) c .answer ≡ Answer.refused 8 → ⊥
+    (o : Opening) → o .n * tableSlots o ≤ shelfEntries o → (cs : List Call) → All Within cs → (c : Call) → Within c
+    → M (bytesAfter M o cs) c .answer ≡ Answer.refused 8 → ⊥
 
 -- and no smaller shelf always has room: some calls lead to a change that is turned away by 8
 unfoldable pub NoSmaller : Machine → Type 0
 NoSmaller M =
-    (o : Opening) → shelfEntries o < o .n * tableSlots o → (cs : List Call) × All Within cs × ((c : Call) × Within c × (M (bytesAfter M o cs) c .answer ≡ Answer.refused 8))
+    (o : Opening) → shelfEntries o < o .n * tableSlots o
+    → (cs : List Call) × All Within cs × ((c : Call) × Within c × (M (bytesAfter M o cs) c .answer ≡ Answer.refused 8))

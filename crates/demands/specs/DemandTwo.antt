@@ -9,11 +9,12 @@ use mathlib.Core.List.{List, [], map, List·Memᴰ}
 use Prim.Native.Nat.{ℕ, suc, _+_, _≤_, _<_}
 use lib.ListN.{length}
 use Rattle.demands.specs.History.{Version, Scan, History, reads, awaits, scanOf}
-use Rattle.demands.specs.Lists.{All, Permutation}
+use Rattle.rules.specs.Passed.{All}
+use Rattle.demands.specs.Lists.{Permutation}
 use Rattle.demands.specs.Lives.{Opening, tableSlots, shelfEntries, Accepted, bytesAfter, past}
 use Rattle.demands.specs.Machine.{Machine, Within}
 use Rattle.demands.specs.Reasons.{reason}
-use Rattle.rules.specs.Answers.{Answer}
+use Rattle.rules.specs.Answers.{Answer, Draw}
 use Rattle.rules.specs.Refusals.{Call, refusedAs}
 
 -- "It has then handed out exactly the records that .. had left when it began, as they read then, each once."
@@ -29,12 +30,10 @@ module _ (T R : ℕ) (s : Scan) (budget : ℕ) (out : List ℕ) where
   abbrev pub Goes : Answer → Type 0
   Goes Answer.done = ⊥
   Goes (Answer.begun t) = ⊥
-  Goes (Answer.inHand looks left) = Hands s out × (1 ≤ looks) × (looks + left ≡ budget) × (s .looks + looks ≤ T + R)
-  Goes (Answer.paused looks) = (looks ≡ budget) × (s .looks + looks < T + R)
-  Goes (Answer.finished looks left handed) = ExactlyOnce s × (handed ≡ length (s .handed)) × (looks + left ≡ budget) × (s .looks + looks ≡ T + R)
-  Goes (Answer.counted r e) = ⊥
-  Goes (Answer.owing c) = ⊥
-  Goes (Answer.part bs) = ⊥
+  Goes (Answer.drew (Draw.inHand looks left)) = Hands s out × (1 ≤ looks) × (looks + left ≡ budget) × (s .looks + looks ≤ T + R)
+  Goes (Answer.drew (Draw.paused looks)) = (looks ≡ budget) × (s .looks + looks < T + R)
+  Goes (Answer.drew (Draw.finished looks left handed)) = ExactlyOnce s × (handed ≡ length (s .handed)) × (looks + left ≡ budget) × (s .looks + looks ≡ T + R)
+  Goes (Answer.shown s) = ⊥
   Goes (Answer.refused k) = ⊥
 
 abbrev pub Unrefused : Answer → Type 0
@@ -48,14 +47,10 @@ module _ (T R : ℕ) (h : History) where
 
   unfoldable pub Fulfils : Call → Answer → List ℕ → Type 0
   Fulfils (Call.opening n) a out = a ≡ Answer.done
-  Fulfils (Call.insert k b) a out = a ≡ Answer.done
-  Fulfils (Call.modify k b) a out = a ≡ Answer.done
-  Fulfils (Call.delete k) a out = a ≡ Answer.done
+  Fulfils (Call.change c) a out = a ≡ Answer.done
   Fulfils Call.begin a out = a ≡ Answer.begun (suc (h .given))
   Fulfils (Call.next t b o) a out = Going (scanOf h t) b out a
-  Fulfils (Call.peek t) a out = Unrefused a
-  Fulfils Call.tally a out = Unrefused a
-  Fulfils (Call.owed t) a out = Unrefused a
+  Fulfils (Call.reading q) a out = Unrefused a
 
   -- refused exactly for the lowest reason that holds
   abbrev pub Answers : Option ℕ → Call → Answer → List ℕ → Type 0

@@ -9,40 +9,32 @@ use Prim.Native.Nat.{ℕ, _+_, _<_}
 use lib.Dec.{eqb, leb}
 use lib.ListN.{length}
 use Rattle.demands.specs.History.{Scan, scanOf}
-use Rattle.demands.specs.Lists.{All}
+use Rattle.rules.specs.Passed.{All}
 use Rattle.demands.specs.Lives.{Opening, tableSlots, shelfEntries, bytesAfter, past}
 use Rattle.demands.specs.Machine.{Machine, Within}
-use Rattle.demands.specs.Masks.{one}
-use Rattle.rules.specs.Answers.{Answer}
+use Rattle.demands.specs.Masks.{oneIf}
+use Rattle.rules.specs.Answers.{Answer, Draw}
 use Rattle.rules.specs.Refusals.{Call}
 
 -- a call of next to ticket t with a budget, and a hand-out buffer that is not refused
 abbrev pub asks : ℕ → Call → Bool
 asks t (Call.opening n) = false
-asks t (Call.insert k b) = false
-asks t (Call.modify k b) = false
-asks t (Call.delete k) = false
+asks t (Call.change c) = false
 asks t Call.begin = false
 asks t (Call.next u b o) = eqb u t && (leb 1 b && eqb (length o) 56)
-asks t (Call.peek u) = false
-asks t Call.tally = false
-asks t (Call.owed u) = false
+asks t (Call.reading q) = false
 
 abbrev pub asked : ℕ → List Call → ℕ
 asked t [] = 0
-asked t (c ∷ cs) = one (asks t c) + asked t cs
+asked t (c ∷ cs) = oneIf (asks t c) + asked t cs
 
 -- an answer of finished to ticket t
 abbrev pub Finished : ℕ → Call → Answer → Type 0
 Finished t (Call.opening n) a = ⊥
-Finished t (Call.insert k b) a = ⊥
-Finished t (Call.modify k b) a = ⊥
-Finished t (Call.delete k) a = ⊥
+Finished t (Call.change c) a = ⊥
 Finished t Call.begin a = ⊥
-Finished t (Call.next u b o) a = (u ≡ t) × ((looks : ℕ) × (left : ℕ) × (handed : ℕ) × (a ≡ Answer.finished looks left handed))
-Finished t (Call.peek u) a = ⊥
-Finished t Call.tally a = ⊥
-Finished t (Call.owed u) a = ⊥
+Finished t (Call.next u b o) a = (u ≡ t) × ((looks : ℕ) × (left : ℕ) × (handed : ℕ) × (a ≡ Answer.drew (Draw.finished looks left handed)))
+Finished t (Call.reading q) a = ⊥
 
 module _ (M : Machine) (o : Opening) (cs : List Call) where
   -- by one of the calls ds that came after cs
@@ -52,4 +44,5 @@ module _ (M : Machine) (o : Opening) (cs : List Call) where
 
 unfoldable pub Finishing : Machine → Type 0
 Finishing M =
-    (o : Opening) (cs ds : List Call) → All Within (ds ++ cs) → (t : ℕ) (s : Scan) → scanOf (past M o cs) t ≡ some s → tableSlots o + shelfEntries o < s .looks + asked t ds → FinishedBy M o cs t ds
+    (o : Opening) (cs ds : List Call) → All Within (ds ++ cs) → (t : ℕ) (s : Scan) → scanOf (past M o cs) t ≡ some s
+    → tableSlots o + shelfEntries o < s .looks + asked t ds → FinishedBy M o cs t ds

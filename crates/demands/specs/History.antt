@@ -5,9 +5,11 @@ use mathlib.Core.List.{List, [], _∷_, _++_, map}
 use Prim.Native.Nat.{ℕ, suc, _+_}
 use lib.Dec.{eqb}
 use Rattle.demands.specs.Lists.{any, those, firstThat}
-use Rattle.rules.specs.Answers.{Answer}
+use Rattle.rules.specs.Answers.{Answer, Draw}
 use Rattle.rules.specs.Bytes.{toLe}
-use Rattle.rules.specs.Refusals.{Call}
+use Rattle.rules.specs.Refusals.{Call, Change}
+
+-- Every list of calls, events, versions, scans and hand-outs here has the newest first.
 
 -- a call, its answer, and the hand-out buffer after it
 pub record Event : Type 0 where
@@ -57,6 +59,8 @@ alike [] (y ∷ ys) = false
 alike (x ∷ xs) [] = false
 alike (x ∷ xs) (y ∷ ys) = eqb x y && alike xs ys
 
+-- A version is told apart by the change that made it, since two of one record may read alike; a hand-out shows its bytes and nothing
+-- else, and tells enough: no two versions that a scan began with have one number.
 abbrev pub beganWith : Scan → Version → Bool
 beganWith s v = any (λ u. eqb (u .change) (v .change)) (s .began)
 
@@ -134,46 +138,37 @@ finishes h t = history (h .changes) (h .live) (h .left) (h .given) (those (λ s.
 abbrev pub onDone : {A : Type 0} → Answer → A → A → A
 onDone Answer.done x h = x
 onDone (Answer.begun t) x h = h
-onDone (Answer.inHand l b) x h = h
-onDone (Answer.paused l) x h = h
-onDone (Answer.finished l b n) x h = h
-onDone (Answer.counted r e) x h = h
-onDone (Answer.owing c) x h = h
-onDone (Answer.part bs) x h = h
+onDone (Answer.drew d) x h = h
+onDone (Answer.shown s) x h = h
 onDone (Answer.refused k) x h = h
 
 abbrev pub onBegun : Answer → History → History
 onBegun Answer.done h = h
 onBegun (Answer.begun t) h = begins h t
-onBegun (Answer.inHand l b) h = h
-onBegun (Answer.paused l) h = h
-onBegun (Answer.finished l b n) h = h
-onBegun (Answer.counted r e) h = h
-onBegun (Answer.owing c) h = h
-onBegun (Answer.part bs) h = h
+onBegun (Answer.drew d) h = h
+onBegun (Answer.shown s) h = h
 onBegun (Answer.refused k) h = h
 
 abbrev pub onNext : Answer → History → ℕ → List ℕ → History
 onNext Answer.done h t o = h
 onNext (Answer.begun u) h t o = h
-onNext (Answer.inHand l b) h t o = goes h t l (o ∷ [])
-onNext (Answer.paused l) h t o = goes h t l []
-onNext (Answer.finished l b n) h t o = finishes h t
-onNext (Answer.counted r e) h t o = h
-onNext (Answer.owing c) h t o = h
-onNext (Answer.part bs) h t o = h
+onNext (Answer.drew (Draw.inHand l b)) h t o = goes h t l (o ∷ [])
+onNext (Answer.drew (Draw.paused l)) h t o = goes h t l []
+onNext (Answer.drew (Draw.finished l b n)) h t o = finishes h t
+onNext (Answer.shown s) h t o = h
 onNext (Answer.refused k) h t o = h
+
+abbrev pub changedBy : History → Change → History
+changedBy h (Change.insert k b) = inserted h k b
+changedBy h (Change.modify k b) = modified h k b
+changedBy h (Change.delete k) = deleted h k
 
 unfoldable pub heard : History → Call → Answer → List ℕ → History
 heard h (Call.opening n) a o = h
-heard h (Call.insert k b) a o = onDone a (inserted h k b) h
-heard h (Call.modify k b) a o = onDone a (modified h k b) h
-heard h (Call.delete k) a o = onDone a (deleted h k) h
+heard h (Call.change c) a o = onDone a (changedBy h c) h
 heard h Call.begin a o = onBegun a h
 heard h (Call.next t b u) a o = onNext a h t o
-heard h (Call.peek t) a o = h
-heard h Call.tally a o = h
-heard h (Call.owed t) a o = h
+heard h (Call.reading q) a o = h
 
 -- ---- the whole list, newest first
 

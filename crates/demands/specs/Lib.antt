@@ -3,6 +3,7 @@ pub mod Machine
 pub mod History
 pub mod Lives
 pub mod Reasons
+pub mod Fits
 pub mod DemandOne
 pub mod DemandTwo
 pub mod DemandThree
@@ -12,8 +13,7 @@ pub mod Masks
 pub mod TableOne
 pub mod Spelt
 pub mod Finishing
+pub mod Packing
+pub mod Lowest
+pub mod Host
 pub mod Page
-pub mod Idle
-pub mod FirstChangeOnly
-pub mod OldStore
-pub mod ClearAtBegin

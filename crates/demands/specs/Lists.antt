@@ -29,10 +29,6 @@ module _ {A : Type 0} where
   firstThat p [] = none
   firstThat p (a ∷ l) = cond (p a) (some a) (firstThat p l)
 
-  abbrev pub All : (A → Type 0) → List A → Type 0
-  All P [] = Unit
-  All P (a ∷ l) = P a × All P l
-
 -- the same things in another order, each as often
 pub data Permutation {A : Type 0} : List A → List A → Type 0 where
   empty : Permutation [] []

@@ -4,7 +4,8 @@ use mathlib.Core.Bool.{true}
 use mathlib.Core.List.{List, [], _∷_}
 use Prim.Native.Nat.{ℕ}
 use Rattle.demands.specs.History.{Event, History, tells}
-use Rattle.demands.specs.Machine.{Machine, LentBytes, LengthsRight, slots}
+use Rattle.rules.specs.Passed.{LentBytes, LengthsRight}
+use Rattle.demands.specs.Machine.{Machine, slots}
 use Rattle.rules.specs.Answers.{Answer}
 use Rattle.rules.specs.Memory.{Lent}
 use Rattle.rules.specs.Refusals.{Call}

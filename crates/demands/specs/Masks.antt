@@ -9,7 +9,7 @@ use lib.Bits.{bitXor}
 use lib.Dec.{ltb}
 use lib.ListN.{getD}
 use Rattle.demands.specs.History.{Version, Scan, awaits}
-use Rattle.demands.specs.Lists.{All}
+use Rattle.rules.specs.Passed.{All}
 use Rattle.demands.specs.Lives.{Opening, tableSlots, Accepted, bytesAfter}
 use Rattle.demands.specs.Machine.{Machine, Within}
 use Rattle.demands.specs.Placement.{Placing, placesAfter, standsAt}
@@ -18,9 +18,9 @@ use Rattle.rules.specs.Masks.{Masks, bit}
 use Rattle.rules.specs.Memory.{read}
 use Rattle.rules.specs.Refusals.{Call}
 
-abbrev pub one : Bool → ℕ
-one true = 1
-one false = 0
+abbrev pub oneIf : Bool → ℕ
+oneIf true = 1
+oneIf false = 0
 
 abbrev pub noneRuns : Option Scan → Bool
 noneRuns none = true
@@ -58,7 +58,7 @@ module _ (M : Machine) (o : Opening) where
     -- the table walks that have ended at position i since the opening
     unfoldable pub walksEnded : List Call → ℕ → ℕ
     walksEnded [] i = 0
-    walksEnded (c ∷ cs) i = walksEnded cs i + one (walking cs i && not (walking (c ∷ cs) i))
+    walksEnded (c ∷ cs) i = walksEnded cs i + oneIf (walking cs i && not (walking (c ∷ cs) i))
 
     -- the version in slot j, in entry k
     abbrev pub inSlot : List Call → ℕ → Option Version
@@ -70,15 +70,16 @@ module _ (M : Machine) (o : Opening) where
     -- after these calls
     pub record MasksMean (cs : List Call) : Type 0 where
       -- active: no scan is at i
-      pub active : (i : ℕ) → i < 64 → bit (masksAfter cs .active) i ≡ one (noneRuns (standsAt M P o cs i))
+      pub active : (i : ℕ) → i < 64 → bit (masksAfter cs .active) i ≡ oneIf (noneRuns (standsAt M P o cs i))
       -- local active: no scan is in its table walk at i
-      pub local : (i : ℕ) → i < 64 → bit (masksAfter cs .local) i ≡ one (not (walking cs i))
+      pub local : (i : ℕ) → i < 64 → bit (masksAfter cs .local) i ≡ oneIf (not (walking cs i))
       -- stable: the parity of the table walks ended at i
       pub stable : (i : ℕ) → i < 64 → bit (masksAfter cs .stable) i ≡ walksEnded cs i % 2
       -- status: differs from stable where a scan in its table walk does not await the version
-      pub status : (j : ℕ) (v : Version) → inSlot cs j ≡ some v → (i : ℕ) → i < 64 → bit (bitXor (masksAfter cs .stable) (statusAfter cs j)) i ≡ one (walking cs i && not (waits cs i v))
+      pub status : (j : ℕ) (v : Version) → inSlot cs j ≡ some v → (i : ℕ) → i < 64
+          → bit (bitXor (masksAfter cs .stable) (statusAfter cs j)) i ≡ oneIf (walking cs i && not (waits cs i v))
       -- remset status: 0 where a scan awaits the version
-      pub remset : (k : ℕ) (v : Version) → inEntry cs k ≡ some v → (i : ℕ) → i < 64 → bit (remsetAfter cs k) i ≡ one (not (waits cs i v))
+      pub remset : (k : ℕ) (v : Version) → inEntry cs k ≡ some v → (i : ℕ) → i < 64 → bit (remsetAfter cs k) i ≡ oneIf (not (waits cs i v))
 
 -- of every life
 unfoldable pub MasksMove : Machine → Placing → Type 0

@@ -3,10 +3,12 @@ use Rattle.demands.specs.DemandOne.{Demand1}
 use Rattle.demands.specs.DemandThree.{Demand3, AlwaysRoom, NoSmaller}
 use Rattle.demands.specs.DemandTwo.{Demand2}
 use Rattle.demands.specs.Finishing.{Finishing}
+use Rattle.demands.specs.Lowest.{LowestAnswered}
 use Rattle.demands.specs.Machine.{Machine}
 use Rattle.demands.specs.Masks.{MasksMove}
+use Rattle.demands.specs.Packing.{NumberTells}
 use Rattle.demands.specs.Placement.{Placing, TakesEmpty}
-use Rattle.demands.specs.RuleOfNext.{RuleOfNext}
+use Rattle.demands.specs.RuleOfNext.{RuleOfNext, PeekIsNext}
 use Rattle.demands.specs.Spelt.{Spelt}
 use Rattle.demands.specs.TableOne.{TableOne}
 
@@ -27,9 +29,15 @@ pub record Meets (M : Machine) (P : Placing) : Type 0 where
   pub next : RuleOfNext M P
   -- what stands in every other byte
   pub spelt : Spelt M P
-  -- whatever comes between, a scan finishes
+  -- what peek tells is what next would hand out, on any lent bytes
+  pub peek : PeekIsNext M
+  -- where several reasons hold, the lowest number is answered (from demands 1 and 2)
+  pub lowestNumber : LowestAnswered M
+  -- the one number that a C host is returned tells the answer (from demand 1)
+  pub numberTells : NumberTells M
+  -- whatever comes between, a scan finishes (from demand 2)
   pub finishing : Finishing M
-  -- a shelf of N times T entries is always large enough
+  -- a shelf of N times T entries is always large enough (from demand 2)
   pub room : AlwaysRoom M
-  -- and no smaller one is
+  -- and no smaller one is (from demand 2)
   pub tight : NoSmaller M

@@ -10,28 +10,35 @@ use Rattle.demands.specs.History.{Event, Version, version, Scan, History
 use Rattle.demands.specs.Lists.{keep}
 use Rattle.demands.specs.Lives.{Opening, tableSlots, shelfEntries, events, past}
 use Rattle.demands.specs.Machine.{Machine}
-use Rattle.rules.specs.Answers.{Answer}
+use Rattle.rules.specs.Answers.{Answer, Draw}
 use Rattle.rules.specs.Calls.{first}
-use Rattle.rules.specs.Refusals.{Call}
+use Rattle.rules.specs.Refusals.{Call, Change}
 
 -- which place a newcomer takes, of a row of places as it stands
 abbrev pub Taking : Type 0 → Type 0
 Taking A = List (Option A) → ℕ
 
--- the slot of a new version and the entry of a shelved one; the position of a new scan
-pub record Placing : Type 0 where
-  pub version : Taking Version
+-- the slot of a new version, the entry of a shelved one, the position of a new scan
+pub record Choice : Type 0 where
+  pub slot : Taking Version
+  pub entry : Taking Version
   pub scan : Taking ℕ
+
+-- the choice at a call, by what was told before it: the histories so far, newest first
+abbrev pub Placing : Type 0
+Placing = List History → Choice
 
 -- "an empty place, if there is one"
 abbrev pub IfThereIsOne : {A : Type 0} → Taking A → Type 0
 IfThereIsOne {A} take = (l : List (Option A)) (j : ℕ) → j < length l → getD l j none ≡ none → (take l < length l) × (getD l (take l) none ≡ none)
 
 pub record TakesEmpty (P : Placing) : Type 0 where
-  pub version : IfThereIsOne (P .version)
-  pub scan : IfThereIsOne (P .scan)
+  pub slot : (before : List History) → IfThereIsOne (P before .slot)
+  pub entry : (before : List History) → IfThereIsOne (P before .entry)
+  pub scan : (before : List History) → IfThereIsOne (P before .scan)
 
--- document 01's: "the lowest empty slot", "the lowest empty shelf entry", "the lowest position below N with active bit 1"
+-- document 01's, whatever came before: "the lowest empty slot", "the lowest empty shelf entry", "the lowest position below N with active
+-- bit 1"
 abbrev pub isEmpty : {A : Type 0} → Option A → Bool
 isEmpty none = true
 isEmpty (some a) = false
@@ -39,8 +46,11 @@ isEmpty (some a) = false
 abbrev pub lowestEmpty : {A : Type 0} → Taking A
 lowestEmpty l = first (λ i. isEmpty (getD l i none)) 0 (length l)
 
+abbrev pub lowestOf : Choice
+lowestOf = record { slot = lowestEmpty; entry = lowestEmpty; scan = lowestEmpty }
+
 abbrev pub lowest : Placing
-lowest = record { version = lowestEmpty; scan = lowestEmpty }
+lowest before = lowestOf
 
 -- the version in each slot and in each entry, and the ticket at each position
 pub record Places : Type 0 where
@@ -59,14 +69,14 @@ bears k (some v) = numbered k v
 abbrev pub placeOf : List (Option Version) → ℕ → ℕ
 placeOf l k = first (λ i. bears k (getD l i none)) 0 (length l)
 
-module _ (P : Placing) where
+module _ (C : Choice) where
   -- a version that some scan awaits goes to the shelf as it leaves the table
   abbrev pub shelve : History → List (Option Version) → Option Version → List (Option Version)
   shelve h s none = s
-  shelve h s (some v) = cond (awaited h v) (set s (P .version s) (some v)) s
+  shelve h s (some v) = cond (awaited h v) (set s (C .entry s) (some v)) s
 
   abbrev pub put : Places → Version → Places
-  put p v = places (set (p .table) (P .version (p .table)) (some v)) (p .shelf) (p .positions)
+  put p v = places (set (p .table) (C .slot (p .table)) (some v)) (p .shelf) (p .positions)
 
   abbrev pub replace : History → Places → ℕ → Option Version → Places
   replace h p k new = places (set (p .table) (placeOf (p .table) k) new) (shelve h (p .shelf) (getD (p .table) (placeOf (p .table) k) none)) (p .positions)
@@ -74,31 +84,33 @@ module _ (P : Placing) where
   -- a scan that begins takes a position
   abbrev pub sit : Answer → Places → Places
   sit Answer.done p = p
-  sit (Answer.begun t) p = places (p .table) (p .shelf) (set (p .positions) (P .scan (p .positions)) (some t))
-  sit (Answer.inHand l b) p = p
-  sit (Answer.paused l) p = p
-  sit (Answer.finished l b n) p = p
-  sit (Answer.counted r e) p = p
-  sit (Answer.owing c) p = p
-  sit (Answer.part bs) p = p
+  sit (Answer.begun t) p = places (p .table) (p .shelf) (set (p .positions) (C .scan (p .positions)) (some t))
+  sit (Answer.drew d) p = p
+  sit (Answer.shown s) p = p
   sit (Answer.refused k) p = p
+
+  abbrev pub changedAt : History → Places → Change → Places
+  changedAt h p (Change.insert k b) = put p (version k b (h .changes))
+  changedAt h p (Change.modify k b) = replace h p k (some (version k b (h .changes)))
+  changedAt h p (Change.delete k) = replace h p k none
 
   -- after a call; with next an entry that no scan awaits any more is freed, and a position whose scan runs no more
   unfoldable pub moves : History → History → Places → Call → Answer → Places
   moves h g p (Call.opening n) a = p
-  moves h g p (Call.insert k b) a = onDone a (put p (version k b (h .changes))) p
-  moves h g p (Call.modify k b) a = onDone a (replace h p k (some (version k b (h .changes)))) p
-  moves h g p (Call.delete k) a = onDone a (replace h p k none) p
+  moves h g p (Call.change c) a = onDone a (changedAt h p c) p
   moves h g p Call.begin a = sit a p
   moves h g p (Call.next t b o) a = places (p .table) (map (keep (awaited g)) (p .shelf)) (map (keep (runs g)) (p .positions))
-  moves h g p (Call.peek t) a = p
-  moves h g p Call.tally a = p
-  moves h g p (Call.owed t) a = p
+  moves h g p (Call.reading q) a = p
 
-  -- of N positions, T slots and R entries
-  unfoldable pub placed : ℕ → ℕ → ℕ → List Event → Places
-  placed N T R [] = places (replicate T none) (replicate R none) (replicate N none)
-  placed N T R (e ∷ es) = moves (tells es) (tells (e ∷ es)) (placed N T R es) (e .call) (e .answer)
+-- what was told after each call so far, newest first, and after the opening
+unfoldable pub allTold : List Event → List History
+allTold [] = tells [] ∷ []
+allTold (e ∷ es) = tells (e ∷ es) ∷ allTold es
+
+-- of N positions, T slots and R entries
+unfoldable pub placed : Placing → ℕ → ℕ → ℕ → List Event → Places
+placed P N T R [] = places (replicate T none) (replicate R none) (replicate N none)
+placed P N T R (e ∷ es) = moves (P (allTold es)) (tells es) (tells (e ∷ es)) (placed P N T R es) (e .call) (e .answer)
 
 -- the running scan at a position
 abbrev pub scanWith : History → Option ℕ → Option Scan
@@ -137,10 +149,8 @@ Finds l s n bytes = (v : Version) × (getD l (s .looks + n) none ≡ some v) × 
 abbrev pub LooksRight : List (Option Version) → Scan → List ℕ → Answer → Type 0
 LooksRight l s o Answer.done = Unit
 LooksRight l s o (Answer.begun t) = Unit
-LooksRight l s o (Answer.inHand looks left) = (n : ℕ) × (looks ≡ suc n) × Passes l s n × Finds l s n o
-LooksRight l s o (Answer.paused looks) = Passes l s looks
-LooksRight l s o (Answer.finished looks left handed) = Passes l s looks
-LooksRight l s o (Answer.counted r e) = Unit
-LooksRight l s o (Answer.owing c) = Unit
-LooksRight l s o (Answer.part bs) = Unit
+LooksRight l s o (Answer.drew (Draw.inHand looks left)) = (n : ℕ) × (looks ≡ suc n) × Passes l s n × Finds l s n o
+LooksRight l s o (Answer.drew (Draw.paused looks)) = Passes l s looks
+LooksRight l s o (Answer.drew (Draw.finished looks left handed)) = Passes l s looks
+LooksRight l s o (Answer.shown x) = Unit
 LooksRight l s o (Answer.refused k) = Unit

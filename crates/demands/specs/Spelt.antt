@@ -7,7 +7,7 @@ use Prim.Native.Nat.{ℕ, _<_}
 use lib.ListN.{length, getD, replicate}
 use Rattle.demands.specs.DemandThree.{Reads}
 use Rattle.demands.specs.History.{Scan, History}
-use Rattle.demands.specs.Lists.{All}
+use Rattle.rules.specs.Passed.{All}
 use Rattle.demands.specs.Lives.{Opening, tableSlots, shelfEntries, Accepted, bytesAfter, past}
 use Rattle.demands.specs.Machine.{Machine, Within}
 use Rattle.demands.specs.Placement.{Placing, Places, sitting, placesAfter}
@@ -37,4 +37,5 @@ pub record Spells (N T R : ℕ) (h : History) (p : Places) (S : Store) : Type 0 
 -- of every life
 unfoldable pub Spelt : Machine → Placing → Type 0
 Spelt M P =
-    (o : Opening) → Accepted M o → (cs : List Call) → All Within cs → Spells (o .n) (tableSlots o) (shelfEntries o) (past M o cs) (placesAfter M P o cs) (read (bytesAfter M o cs))
+    (o : Opening) → Accepted M o → (cs : List Call) → All Within cs
+    → Spells (o .n) (tableSlots o) (shelfEntries o) (past M o cs) (placesAfter M P o cs) (read (bytesAfter M o cs))

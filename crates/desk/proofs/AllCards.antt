@@ -8,7 +8,7 @@ use lib.Bits.{bitAnd}
 use borrow.Author.Tests.{eqb-true, eq-eqb}
 use Rattle.rules.specs.Masks.{Masks, bit, on, NOT}
 use Rattle.rules.specs.Memory.{each, cardAt}
-use Rattle.rules.specs.Sound.{holds, cardRules, cardsRules}
+use Rattle.rules.specs.Sound.{allHold, cardRules, cardsRules}
 use Rattle.rules.proofs.Soundness.{holds-append}
 use Rattle.desk.specs.Every.{every}
 use Rattle.desk.specs.Words.{zeroWord, zeroWords, zeroCard}
@@ -19,11 +19,11 @@ use Rattle.desk.proofs.MaskBits.{idle-local, local-idle}
 use Rattle.desk.proofs.OneCard.{idle-is}
 
 module _ (d : List ℕ) (m : Masks) (t r last : ℕ) where
-  pub cards-every : (i n : ℕ) → every (cardHolds d m t r last) i n ≡ holds (cardsRules m t r last (each (cardAt d) i n) i)
-  unfolding every each cardHolds cardsRules holds
+  pub cards-every : (i n : ℕ) → every (cardHolds d m t r last) i n ≡ allHold (cardsRules m t r last (each (cardAt d) i n) i)
+  unfolding every each cardHolds cardsRules allHold
   cards-every i zero = refl
   cards-every i (suc n) =
-      ap (λ (x : Bool). holds (cardRules m t r last (cardAt d i) i) && x) (cards-every (suc i) n)
+      ap (λ (x : Bool). allHold (cardRules m t r last (cardAt d i) i) && x) (cards-every (suc i) n)
       ∙ sym (holds-append (cardRules m t r last (cardAt d i) i) (cardsRules m t r last (each (cardAt d) (suc i) n) (suc i)))
 
   module _ (s : m .local < 2 ^ 64) where

@@ -16,7 +16,8 @@ use Rattle.masks.specs.declared.Masks.{Masks}
 use Rattle.masks.specs.Held.{held}
 use Rattle.desk.specs.Every.{every}
 use Rattle.desk.specs.Words.{zeroWords}
-use Rattle.desk.specs.Cards.{busyHolds, cardHolds}
+use Rattle.numbers.specs.Busy.{busyHolds}
+use Rattle.desk.specs.Cards.{cardHolds}
 use Rattle.desk.proofs.Every.{every-more, every-same, every-shift}
 use Rattle.desk.proofs.MaskBits.{byte-bit, byte-on, byte-off}
 use Rattle.desk.proofs.OneCard.{busy-is}

@@ -10,3 +10,4 @@ pub mod DeskCases
 pub mod HeadRules
 pub mod Sound
 pub mod Says
+pub mod Fresh

@@ -2,19 +2,13 @@
 use mathlib.Core.Path.{_≡_, refl, sym, ap, _∙_}
 use mathlib.Core.Bool.{Bool, true, false}
 use Prim.Native.Nat.{ℕ, _+_, _-_, _/_, _%_, _^_, _≤_, _<_, min}
-use native.Mathlib.Nat.{div-eq-of-lt}
 use native.Mathlib.Omega.{arith}
-use lib.Pow.{pow-mono, shr-shr, field, mod-mod-pow}
+use lib.Pow.{shr-shr, field, mod-mod-pow}
 use lib.Bits.{bitAnd, and-le-l}
 use lib.Dec.{eqb}
 use borrow.Author.Tests.{eqb-true, eqb-false}
-use Rattle.rules.specs.Masks.{bit, NOT, from}
+use Rattle.rules.specs.Masks.{bit, NOT}
 use Rattle.rules.proofs.Bits.{bit-low, bit-zero, bit-and, bit-not, bit-ones, bit-ext}
-
--- a mask of 64 bits has none from 64 up
-pub from-past : (n x : ℕ) → 64 ≤ n → x < 2 ^ 64 → from n x ≡ 0
-unfolding from
-from-past n x h k = div-eq-of-lt (omega (arith, pow-mono {i = 64} {j = n} h))
 
 -- the low bits of a number are those of its remainder
 bit-low-part : (x w i : ℕ) → i < w → bit (x % 2 ^ w) i ≡ bit x i

@@ -1,31 +1,22 @@
--- One card: what the code has read of it, and its rules as the code tests them.
+-- The rules of one card as the code tests them.
 use mathlib.Core.Path.{_≡_, refl}
 use mathlib.Core.Bool.{Bool, true, false, not, _&&_, and-true}
 use mathlib.Core.List.{List, [], _∷_}
 use Prim.Native.Nat.{ℕ, _+_, _*_}
 use native.Mathlib.Omega.{arith}
 use lib.Dec.{eqb, leb, ltb}
-use Rattle.rules.specs.declared.Card.{Card}
 use Rattle.rules.specs.Bytes.{u32At}
 use Rattle.rules.specs.Masks.{Masks, bit, on, off}
-use Rattle.rules.specs.Memory.{card, cardAt}
-use Rattle.rules.specs.Sound.{Rules, atTicket, atPlace, atHanded, atLastWord, same, either, holds, idleRules, busyRules, cardRules}
+use Rattle.rules.specs.Memory.{cardAt}
+use Rattle.rules.specs.Sound.{Rules, atTicket, atPlace, atHanded, atLastWord, same, lastWordOk, either, allHold, idleRules, busyRules, cardRules}
 use Rattle.desk.specs.Words.{zeroCard}
-use Rattle.desk.specs.Cards.{busyHolds, cardHolds}
+use Rattle.numbers.specs.Busy.{busyHolds}
+use Rattle.desk.specs.Cards.{cardHolds}
 use Rattle.desk.proofs.Zeros.{word-zero}
 
-pub card-by : (d : List ℕ) (i : ℕ) {t p h w : ℕ} → t ≡ u32At d (64 + i * 16) → p ≡ u32At d (64 + i * 16 + 4) → h ≡ u32At d (64 + i * 16 + 8) → w ≡ u32At d (64 + i * 16 + 12)
-    → card t p h w ≡ cardAt d i
-card-by d i a b c e = cc
-
-pub busy-by : (c : Card) (low : Bool) (last t r : ℕ) {side : Bool} → side ≡ same (ltb (c .place) t) low
-    → not (eqb (c .ticket .0) 0) && (leb (c .ticket .0) last && (leb (c .place) (t + r) && (side && (leb (c .handed) (c .place) && eqb (c .rest) 0)))) ≡ busyHolds c low last t r
-unfolding busyHolds
-busy-by c low last t r e = rw e refl
-
 idle-tests : (rs : Rules) (i : ℕ) (k p h w o : Bool)
-    → holds ((same k true, atTicket i) ∷ either k ((p, atPlace i) ∷ (h, atHanded i) ∷ (w, atLastWord i) ∷ (o, atPlace i) ∷ []) rs) ≡ ((k && p) && (h && w)) && o
-unfolding holds
+    → allHold ((same k true, atTicket i) ∷ either k ((p, atPlace i) ∷ (h, atHanded i) ∷ (w, atLastWord i) ∷ (o, atPlace i) ∷ []) rs) ≡ ((k && p) && (h && w)) && o
+unfolding allHold
 idle-tests rs i false p h w o = refl
 idle-tests rs i true false h w o = refl
 idle-tests rs i true true false w o = refl
@@ -33,9 +24,9 @@ idle-tests rs i true true true false o = refl
 idle-tests rs i true true true true o = and-true o
 
 busy-tests : (rs : Rules) (i : ℕ) (k a b c d e : Bool)
-    → holds ((same k false, atTicket i) ∷ either k rs ((a, atTicket i) ∷ (b, atPlace i) ∷ (c, atPlace i) ∷ (d, atHanded i) ∷ (e, atLastWord i) ∷ []))
+    → allHold ((same k false, atTicket i) ∷ either k rs ((a, atTicket i) ∷ (b, atPlace i) ∷ (c, atPlace i) ∷ (d, atHanded i) ∷ (e, atLastWord i) ∷ []))
     ≡ not k && (a && (b && (c && (d && e))))
-unfolding holds
+unfolding allHold
 busy-tests rs i true a b c d e = refl
 busy-tests rs i false a b c d e = rw (and-true e) refl
 
@@ -59,4 +50,4 @@ module _ (d : List ℕ) (m : Masks) (t r last i : ℕ) where
       let c = cardAt d i in
       rw o
       (busy-tests (idleRules m c i) i (eqb (c .ticket .0) 0) (leb (c .ticket .0) last) (leb (c .place) (t + r))
-      (same (ltb (c .place) t) (off (m .local) i)) (leb (c .handed) (c .place)) (eqb (c .rest) 0))
+      (same (ltb (c .place) t) (off (m .local) i)) (leb (c .handed) (c .place)) (lastWordOk (c .rest)))

@@ -10,10 +10,10 @@ use lib.Pow.{shr-shr}
 use borrow.Author.Tests.{eqb-true, leb-true, eq-eqb, ne-eqb}
 use Rattle.rules.specs.Bytes.{field, u32At, u64At}
 use Rattle.rules.specs.Masks.{bit, on, off, ones, from}
-use Rattle.rules.specs.Memory.{lent, cardAt, masksOf, deskOf, read}
-use Rattle.rules.specs.Sound.{same, nInRange, allZero, holds, headRules, cardRules, sound}
+use Rattle.rules.specs.Memory.{cardAt, masksOf, deskOf, storeOf}
+use Rattle.rules.specs.Sound.{same, lastWordOk, nInRange, allZero, allHold, headRules, cardRules, sound}
 use Rattle.rules.proofs.Bits.{bit-ones}
-use Rattle.desk.specs.Head.{highBits}
+use Rattle.numbers.specs.Head.{highBits}
 use Rattle.desk.specs.Every.{every}
 use Rattle.desk.specs.Cards.{cardHolds}
 use Rattle.laws.proofs.Bools.{and-left, and-right}
@@ -29,12 +29,12 @@ bit-from n x i h = let e : n + (i - n) ≡ i = omega arith in rw (shr-shr x n (i
 high-on : (n x i : ℕ) → from n x ≡ from n (ones 64) → n ≤ i → i < 64 → bit x i ≡ 1
 high-on n x i e h k = bit-from n x i h ∙ rw e (sym (bit-from n (ones 64) i h)) ∙ bit-ones 64 i k
 
-module _ (d t s : List ℕ) (ok : sound (read (lent d t s)) ≡ true) where
-  both : holds (headRules (deskOf d) (length t / 64) (length s / 64)) && every (cardHolds d (masksOf d) (length t / 64) (length s / 64) (u32At d 12)) 0 64 ≡ true
+module _ (d t s : List ℕ) (ok : sound (storeOf d t s) ≡ true) where
+  both : allHold (headRules (deskOf d) (length t / 64) (length s / 64)) && every (cardHolds d (masksOf d) (length t / 64) (length s / 64) (u32At d 12)) 0 64 ≡ true
   both = sound-is d t s ∙ ok
 
-  head-holds : holds (headRules (deskOf d) (length t / 64) (length s / 64)) ≡ true
-  head-holds = and-left (holds (headRules (deskOf d) (length t / 64) (length s / 64))) _ both
+  head-holds : allHold (headRules (deskOf d) (length t / 64) (length s / 64)) ≡ true
+  head-holds = and-left (allHold (headRules (deskOf d) (length t / 64) (length s / 64))) _ both
 
   head-parts : nInRange (u32At d 0) && (eqb (u32At d 4) (length t / 64) && (eqb (u32At d 8) (length s / 64) && (allZero (field 24 40 d) && highBits (u32At d 0) (masksOf d)))) ≡ true
   head-parts = head-is d (length t / 64) (length s / 64) ∙ head-holds
@@ -49,15 +49,15 @@ module _ (d t s : List ℕ) (ok : sound (read (lent d t s)) ≡ true) where
       (and-right (eqb (from (u32At d 0) (u64At d 16)) 0) _
       (and-right (allZero (field 24 40 d)) _ (and-right (eqb (u32At d 8) (length s / 64)) _ (and-right (eqb (u32At d 4) (length t / 64)) _ (and-right (nInRange (u32At d 0)) _ head-parts))))))
 
-  card-holds : (p : ℕ) → p < 64 → holds (cardRules (masksOf d) (length t / 64) (length s / 64) (u32At d 12) (cardAt d p) p) ≡ true
+  card-holds : (p : ℕ) → p < 64 → allHold (cardRules (masksOf d) (length t / 64) (length s / 64) (u32At d 12) (cardAt d p) p) ≡ true
   unfolding cardHolds
   card-holds p h =
       every-at (cardHolds d (masksOf d) (length t / 64) (length s / 64) (u32At d 12)) 0 64
-      (and-right (holds (headRules (deskOf d) (length t / 64) (length s / 64))) _ both) p (omega arith) (omega arith)
+      (and-right (allHold (headRules (deskOf d) (length t / 64) (length s / 64))) _ both) p (omega arith) (omega arith)
 
   -- the card of a position with active bit 1 bears no ticket
   free-idle : (k g : ℕ) → (g ≡ 0 → ⊥) → k < 64 → bit (u64At d 24) k ≡ 1 → u32At d (64 + k * 16) ≡ g → ⊥
-  unfolding cardRules holds
+  unfolding cardRules allHold
   free-idle k g z hi one e =
       let a : on (masksOf d .active) k ≡ true = eq-eqb _ _ one in
       let c = and-left (same (eqb (u32At d (64 + k * 16)) 0) (on (masksOf d .active) k)) _ (card-holds k hi) in
@@ -79,8 +79,8 @@ module _ (d t s : List ℕ) (ok : sound (read (lent d t s)) ≡ true) where
   module _ (p : ℕ) (below : p < 64) (busy : cardAt d p .ticket .0 ≡ 0 → ⊥) where
     busy-holds : leb (cardAt d p .ticket .0) (u32At d 12)
         && (leb (cardAt d p .place) (length t / 64 + length s / 64)
-        && (same (ltb (cardAt d p .place) (length t / 64)) (off (masksOf d .local) p) && (leb (cardAt d p .handed) (cardAt d p .place) && (eqb (cardAt d p .rest) 0 && true)))) ≡ true
-    unfolding cardRules holds
+        && (same (ltb (cardAt d p .place) (length t / 64)) (off (masksOf d .local) p) && (leb (cardAt d p .handed) (cardAt d p .place) && (lastWordOk (cardAt d p .rest) && true)))) ≡ true
+    unfolding cardRules allHold
     busy-holds = and-right (not (on (masksOf d .active) p)) _ (rw (ne-eqb (cardAt d p .ticket .0) 0 busy) at (card-holds p below))
 
     pub place-most : cardAt d p .place ≤ length t / 64 + length s / 64

@@ -5,8 +5,8 @@ use mathlib.Core.List.{List}
 use Prim.Native.Nat.{ℕ, _/_}
 use lib.ListN.{length}
 use Rattle.rules.specs.Bytes.{u32At}
-use Rattle.rules.specs.Memory.{lent, read, each, cardAt, slotAt, masksOf, deskOf}
-use Rattle.rules.specs.Sound.{holds, headRules, cardsRules, deskRules, sound}
+use Rattle.rules.specs.Memory.{storeOf, each, cardAt, slotAt, masksOf, deskOf}
+use Rattle.rules.specs.Sound.{allHold, headRules, cardsRules, deskRules, sound}
 use Rattle.rules.proofs.Each.{length-each}
 use Rattle.rules.proofs.Soundness.{holds-append}
 use Rattle.desk.specs.Every.{every}
@@ -15,13 +15,13 @@ use Rattle.desk.proofs.AllCards.{cards-every}
 
 module _ (d t s : List ℕ) where
   abbrev head : Bool
-  head = holds (headRules (deskOf d) (length t / 64) (length s / 64))
+  head = allHold (headRules (deskOf d) (length t / 64) (length s / 64))
 
   abbrev cards : Bool
   cards = every (cardHolds d (masksOf d) (length t / 64) (length s / 64) (u32At d 12)) 0 64
 
-  pub sound-is : head && cards ≡ sound (read (lent d t s))
-  unfolding sound deskRules read deskOf
+  pub sound-is : head && cards ≡ sound (storeOf d t s)
+  unfolding sound deskRules storeOf deskOf
   sound-is =
       rw (
         length-each (slotAt t) 0 (length t / 64),
@@ -31,8 +31,8 @@ module _ (d t s : List ℕ) where
       (sym
       (holds-append (headRules (deskOf d) (length t / 64) (length s / 64)) (cardsRules (masksOf d) (length t / 64) (length s / 64) (u32At d 12) (each (cardAt d) 0 64) 0)))
 
-  pub sound-cards : {x y : Bool} → x ≡ head → x ≡ true → y ≡ cards → y ≡ sound (read (lent d t s))
+  pub sound-cards : {x y : Bool} → x ≡ head → x ≡ true → y ≡ cards → y ≡ sound (storeOf d t s)
   sound-cards p q e = e ∙ ap (λ (b : Bool). b && cards) (sym q ∙ p) ∙ sound-is
 
-  pub unsound-head : {x : Bool} → x ≡ head → x ≡ false → false ≡ sound (read (lent d t s))
+  pub unsound-head : {x : Bool} → x ≡ head → x ≡ false → false ≡ sound (storeOf d t s)
   unsound-head p q = ap (λ (b : Bool). b && cards) (sym q ∙ p) ∙ sound-is

@@ -1,4 +1,3 @@
 pub mod Every
 pub mod Words
-pub mod Head
 pub mod Cards

@@ -1,28 +1,26 @@
 -- What the contracts leave open: nothing. Two results that meet one contract are equal, and a refusal leaves every byte.
 use mathlib.Core.Path.{_≡_, refl, sym, ap, _∙_}
 use mathlib.Core.Option.{some}
-use mathlib.Core.List.{List}
+use mathlib.Core.List.{List, []}
+use denote.Ref.{now}
 use Prim.Native.Nat.{ℕ}
 use Rattle.rules.specs.declared.BeginAnswer.{BeginAnswer}
 use Rattle.rules.specs.declared.ChangeAnswer.{ChangeAnswer}
 use Rattle.rules.specs.declared.NextAnswer.{NextAnswer}
 use Rattle.rules.specs.declared.OwedAnswer.{OwedAnswer}
 use Rattle.rules.specs.declared.TallyAnswer.{TallyAnswer}
-use Rattle.rules.specs.Answers.{Answer, done, begun, inHand, paused, finished, counted, owing, part, refused, changeSays, beginSays, nextSays, tallySays, owedSays}
+use Rattle.rules.specs.Answers.{Answer, Draw, Shown, done, begun, refused, changeSays, beginSays, nextSays, tallySays, owedSays}
 use Rattle.rules.specs.Memory.{Lent}
 use Rattle.rules.specs.Refusals.{Call, firstOf, refusals, refusedAs, outOf, Reply, reply, replied, called, Returned, returned, packedReply}
+use Rattle.rules.specs.Contracts.{Buffer, before, after, Answers, HandsOut, Returns, ReturnsOut}
 
 -- ---- an enum of the code is told by its answer
 
 changeBack : Answer → ChangeAnswer
 changeBack done = ChangeAnswer.Done
 changeBack (begun t) = ChangeAnswer.Done
-changeBack (inHand n b) = ChangeAnswer.Done
-changeBack (paused n) = ChangeAnswer.Done
-changeBack (finished n b h) = ChangeAnswer.Done
-changeBack (counted r e) = ChangeAnswer.Done
-changeBack (owing n) = ChangeAnswer.Done
-changeBack (part bs) = ChangeAnswer.Done
+changeBack (Answer.drew d) = ChangeAnswer.Done
+changeBack (Answer.shown s) = ChangeAnswer.Done
 changeBack (refused k) = ChangeAnswer.Refused k
 
 change-told : (a : ChangeAnswer) → changeBack (changeSays a) ≡ a
@@ -33,12 +31,8 @@ change-told (ChangeAnswer.Refused k) = refl
 beginBack : Answer → BeginAnswer
 beginBack done = BeginAnswer.Refused 0
 beginBack (begun t) = BeginAnswer.Begun (record { 0 = t })
-beginBack (inHand n b) = BeginAnswer.Refused 0
-beginBack (paused n) = BeginAnswer.Refused 0
-beginBack (finished n b h) = BeginAnswer.Refused 0
-beginBack (counted r e) = BeginAnswer.Refused 0
-beginBack (owing n) = BeginAnswer.Refused 0
-beginBack (part bs) = BeginAnswer.Refused 0
+beginBack (Answer.drew d) = BeginAnswer.Refused 0
+beginBack (Answer.shown s) = BeginAnswer.Refused 0
 beginBack (refused k) = BeginAnswer.Refused k
 
 begin-told : (a : BeginAnswer) → beginBack (beginSays a) ≡ a
@@ -49,12 +43,10 @@ begin-told (BeginAnswer.Refused k) = refl
 nextBack : Answer → NextAnswer
 nextBack done = NextAnswer.Refused 0
 nextBack (begun t) = NextAnswer.Refused 0
-nextBack (inHand n b) = NextAnswer.InHand n b
-nextBack (paused n) = NextAnswer.Paused n
-nextBack (finished n b h) = NextAnswer.Finished n b h
-nextBack (counted r e) = NextAnswer.Refused 0
-nextBack (owing n) = NextAnswer.Refused 0
-nextBack (part bs) = NextAnswer.Refused 0
+nextBack (Answer.drew (Draw.inHand n b)) = NextAnswer.InHand n b
+nextBack (Answer.drew (Draw.paused n)) = NextAnswer.Paused n
+nextBack (Answer.drew (Draw.finished n b h)) = NextAnswer.Finished n b h
+nextBack (Answer.shown s) = NextAnswer.Refused 0
 nextBack (refused k) = NextAnswer.Refused k
 
 next-told : (a : NextAnswer) → nextBack (nextSays a) ≡ a
@@ -67,12 +59,10 @@ next-told (NextAnswer.Refused k) = refl
 tallyBack : Answer → TallyAnswer
 tallyBack done = TallyAnswer.Refused 0
 tallyBack (begun t) = TallyAnswer.Refused 0
-tallyBack (inHand n b) = TallyAnswer.Refused 0
-tallyBack (paused n) = TallyAnswer.Refused 0
-tallyBack (finished n b h) = TallyAnswer.Refused 0
-tallyBack (counted r e) = TallyAnswer.Counted r e
-tallyBack (owing n) = TallyAnswer.Refused 0
-tallyBack (part bs) = TallyAnswer.Refused 0
+tallyBack (Answer.drew d) = TallyAnswer.Refused 0
+tallyBack (Answer.shown (Shown.counted r e)) = TallyAnswer.Counted r e
+tallyBack (Answer.shown (Shown.owing n)) = TallyAnswer.Refused 0
+tallyBack (Answer.shown (Shown.part bs)) = TallyAnswer.Refused 0
 tallyBack (refused k) = TallyAnswer.Refused k
 
 tally-told : (a : TallyAnswer) → tallyBack (tallySays a) ≡ a
@@ -83,12 +73,10 @@ tally-told (TallyAnswer.Refused k) = refl
 owedBack : Answer → OwedAnswer
 owedBack done = OwedAnswer.Refused 0
 owedBack (begun t) = OwedAnswer.Refused 0
-owedBack (inHand n b) = OwedAnswer.Refused 0
-owedBack (paused n) = OwedAnswer.Refused 0
-owedBack (finished n b h) = OwedAnswer.Refused 0
-owedBack (counted r e) = OwedAnswer.Refused 0
-owedBack (owing n) = OwedAnswer.Owing n
-owedBack (part bs) = OwedAnswer.Refused 0
+owedBack (Answer.drew d) = OwedAnswer.Refused 0
+owedBack (Answer.shown (Shown.counted r e)) = OwedAnswer.Refused 0
+owedBack (Answer.shown (Shown.owing n)) = OwedAnswer.Owing n
+owedBack (Answer.shown (Shown.part bs)) = OwedAnswer.Refused 0
 owedBack (refused k) = OwedAnswer.Refused k
 
 owed-told : (a : OwedAnswer) → owedBack (owedSays a) ≡ a
@@ -96,54 +84,63 @@ unfolding owedBack owedSays
 owed-told (OwedAnswer.Owing n) = refl
 owed-told (OwedAnswer.Refused k) = refl
 
--- ---- one result: the premises are the contracts' own equations
+partBack : Answer → List ℕ
+partBack done = []
+partBack (begun t) = []
+partBack (Answer.drew d) = []
+partBack (Answer.shown (Shown.counted r e)) = []
+partBack (Answer.shown (Shown.owing n)) = []
+partBack (Answer.shown (Shown.part bs)) = bs
+partBack (refused k) = []
+
+-- ---- one result: the premises are the contracts, of buffers that were lent with the same bytes
 
 -- of a call for Rattle callers whose answers `says` tells apart
-module _ {A : Type 0} (says : A → Answer) (back : Answer → A) (tells : (a : A) → back (says a) ≡ a) (l : Lent) (c : Call)
-    {a b : A} {l₁ l₂ : Lent} {o₁ o₂ : List ℕ} (one : reply (says a) l₁ o₁ ≡ called l c) (two : reply (says b) l₂ o₂ ≡ called l c) where
+module _ {A : Type 0} (says : A → Answer) (back : Answer → A) (tells : (a : A) → back (says a) ≡ a) (c : Call)
+    {a b : A} {k₁ k₂ l₁ l₂ : Lent} {o₁ o₂ : List ℕ} (alike : k₁ ≡ k₂) (one : reply (says a) l₁ o₁ ≡ called k₁ c) (two : reply (says b) l₂ o₂ ≡ called k₂ c) where
   both : reply (says a) l₁ o₁ ≡ reply (says b) l₂ o₂
-  both = one ∙ sym two
+  both = one ∙ ap (λ (k : Lent). called k c) alike ∙ sym two
 
   once : (a ≡ b) × (l₁ ≡ l₂) × (o₁ ≡ o₂)
   once = (sym (tells a) ∙ ap (λ (r : Reply). back (r .answer)) both ∙ tells b, ap (λ (r : Reply). r .after) both, ap (λ (r : Reply). r .out) both)
 
-module _ (l : Lent) (c : Call) {l₁ l₂ : Lent} {o₁ o₂ : List ℕ} where
+-- of an exported call
+module _ (c : Call) {n₁ n₂ : ℕ} {k₁ k₂ l₁ l₂ : Lent} {o₁ o₂ : List ℕ} (alike : k₁ ≡ k₂)
+    (one : returned n₁ l₁ o₁ ≡ packedReply (called k₁ c)) (two : returned n₂ l₂ o₂ ≡ packedReply (called k₂ c)) where
+  returned-both : returned n₁ l₁ o₁ ≡ returned n₂ l₂ o₂
+  returned-both = one ∙ ap (λ (k : Lent). packedReply (called k c)) alike ∙ sym two
+
+  returned-once : (n₁ ≡ n₂) × (l₁ ≡ l₂) × (o₁ ≡ o₂)
+  returned-once = (ap (λ (r : Returned). r .number) returned-both, ap (λ (r : Returned). r .after) returned-both, ap (λ (r : Returned). r .out) returned-both)
+
+module _ (c : Call) (d₁ t₁ s₁ d₂ t₂ s₂ : Buffer) (alike : before d₁ t₁ s₁ ≡ before d₂ t₂ s₂) where
   -- open, insert, modify, delete
-  pub change-once : (a b : ChangeAnswer) → reply (changeSays a) l₁ o₁ ≡ called l c → reply (changeSays b) l₂ o₂ ≡ called l c → (a ≡ b) × (l₁ ≡ l₂) × (o₁ ≡ o₂)
-  change-once a b p q = once changeSays changeBack change-told l c p q
+  pub change-once : (a b : ChangeAnswer) → Answers (changeSays a) d₁ t₁ s₁ c → Answers (changeSays b) d₂ t₂ s₂ c → (a ≡ b) × (after d₁ t₁ s₁ ≡ after d₂ t₂ s₂)
+  change-once a b p q = let z = once changeSays changeBack change-told c alike p q in (z .0, z .1)
 
-  pub begin-once : (a b : BeginAnswer) → reply (beginSays a) l₁ o₁ ≡ called l c → reply (beginSays b) l₂ o₂ ≡ called l c → (a ≡ b) × (l₁ ≡ l₂) × (o₁ ≡ o₂)
-  begin-once a b p q = once beginSays beginBack begin-told l c p q
+  pub begin-once : (a b : BeginAnswer) → Answers (beginSays a) d₁ t₁ s₁ c → Answers (beginSays b) d₂ t₂ s₂ c → (a ≡ b) × (after d₁ t₁ s₁ ≡ after d₂ t₂ s₂)
+  begin-once a b p q = let z = once beginSays beginBack begin-told c alike p q in (z .0, z .1)
 
-  pub next-once : (a b : NextAnswer) → reply (nextSays a) l₁ o₁ ≡ called l c → reply (nextSays b) l₂ o₂ ≡ called l c → (a ≡ b) × (l₁ ≡ l₂) × (o₁ ≡ o₂)
-  next-once a b p q = once nextSays nextBack next-told l c p q
+  pub tally-once : (a b : TallyAnswer) → Answers (tallySays a) d₁ t₁ s₁ c → Answers (tallySays b) d₂ t₂ s₂ c → (a ≡ b) × (after d₁ t₁ s₁ ≡ after d₂ t₂ s₂)
+  tally-once a b p q = let z = once tallySays tallyBack tally-told c alike p q in (z .0, z .1)
 
-  pub tally-once : (a b : TallyAnswer) → reply (tallySays a) l₁ o₁ ≡ called l c → reply (tallySays b) l₂ o₂ ≡ called l c → (a ≡ b) × (l₁ ≡ l₂) × (o₁ ≡ o₂)
-  tally-once a b p q = once tallySays tallyBack tally-told l c p q
-
-  pub owed-once : (a b : OwedAnswer) → reply (owedSays a) l₁ o₁ ≡ called l c → reply (owedSays b) l₂ o₂ ≡ called l c → (a ≡ b) × (l₁ ≡ l₂) × (o₁ ≡ o₂)
-  owed-once a b p q = once owedSays owedBack owed-told l c p q
+  pub owed-once : (a b : OwedAnswer) → Answers (owedSays a) d₁ t₁ s₁ c → Answers (owedSays b) d₂ t₂ s₂ c → (a ≡ b) × (after d₁ t₁ s₁ ≡ after d₂ t₂ s₂)
+  owed-once a b p q = let z = once owedSays owedBack owed-told c alike p q in (z .0, z .1)
 
   -- peek: the bytes of its part
-  pub peek-once : (x y : List ℕ) → reply (part x) l₁ o₁ ≡ called l c → reply (part y) l₂ o₂ ≡ called l c → (x ≡ y) × (l₁ ≡ l₂) × (o₁ ≡ o₂)
-  peek-once x y p q = once part partBack (λ z. refl) l c p q
-    where
-      partBack : Answer → List ℕ
-      partBack done = mathlib.Core.List.List.[]
-      partBack (begun t) = mathlib.Core.List.List.[]
-      partBack (inHand n b) = mathlib.Core.List.List.[]
-      partBack (paused n) = mathlib.Core.List.List.[]
-      partBack (finished n b h) = mathlib.Core.List.List.[]
-      partBack (counted r e) = mathlib.Core.List.List.[]
-      partBack (owing n) = mathlib.Core.List.List.[]
-      partBack (part bs) = bs
-      partBack (refused k) = mathlib.Core.List.List.[]
+  pub peek-once : (x y : List ℕ) → Answers (Answer.shown (Shown.part x)) d₁ t₁ s₁ c → Answers (Answer.shown (Shown.part y)) d₂ t₂ s₂ c → (x ≡ y) × (after d₁ t₁ s₁ ≡ after d₂ t₂ s₂)
+  unfolding partBack
+  peek-once x y p q = let z = once (λ (z : List ℕ). Answer.shown (Shown.part z)) partBack (λ v. refl) c alike p q in (z .0, z .1)
 
-  -- every exported call
-  pub host-once : (r₁ r₂ : ℕ) → returned r₁ l₁ o₁ ≡ packedReply (called l c) → returned r₂ l₂ o₂ ≡ packedReply (called l c) → (r₁ ≡ r₂) × (l₁ ≡ l₂) × (o₁ ≡ o₂)
-  host-once r₁ r₂ p q =
-      let both : returned r₁ l₁ o₁ ≡ returned r₂ l₂ o₂ = p ∙ sym q in
-      (ap (λ (r : Returned). r .number) both, ap (λ (r : Returned). r .after) both, ap (λ (r : Returned). r .out) both)
+  pub next-once : (o₁ o₂ : Buffer) (a b : NextAnswer) → HandsOut (nextSays a) d₁ t₁ s₁ o₁ c → HandsOut (nextSays b) d₂ t₂ s₂ o₂ c → (a ≡ b) × (after d₁ t₁ s₁ ≡ after d₂ t₂ s₂) × (now (o₁ .exit) ≡ now (o₂ .exit))
+  next-once o₁ o₂ a b p q = once nextSays nextBack next-told c alike p q
+
+  -- every exported call but next, and next
+  pub host-once : (n₁ n₂ : ℕ) → Returns n₁ d₁ t₁ s₁ c → Returns n₂ d₂ t₂ s₂ c → (n₁ ≡ n₂) × (after d₁ t₁ s₁ ≡ after d₂ t₂ s₂)
+  host-once n₁ n₂ p q = let z = returned-once c alike p q in (z .0, z .1)
+
+  pub host-next-once : (o₁ o₂ : Buffer) (n₁ n₂ : ℕ) → ReturnsOut n₁ d₁ t₁ s₁ o₁ c → ReturnsOut n₂ d₂ t₂ s₂ o₂ c → (n₁ ≡ n₂) × (after d₁ t₁ s₁ ≡ after d₂ t₂ s₂) × (now (o₁ .exit) ≡ now (o₂ .exit))
+  host-next-once o₁ o₂ n₁ n₂ p q = returned-once c alike p q
 
 -- ---- "Refusals 1 to 11 change no byte."
 

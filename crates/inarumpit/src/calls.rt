@@ -1,10 +1,10 @@
 // The nine calls for Rattle callers: any bytes of any length, any numbers; a refusal changes no byte.
-ghost use mathlib.Core.List.{[]};
+ghost use mathlib.Core.Bool.{true};
 ghost use mathlib.Core.Path.{_≡_};
-ghost use Prim.Native.Nat.{_*_, _<_};
-ghost use Rattle.rules.specs.Answers.{part, changeSays, beginSays, nextSays, tallySays, owedSays};
-ghost use Rattle.rules.specs.Memory.{lent};
-ghost use Rattle.rules.specs.Refusals.{Call, slotsRight, lengthsRight, reply, called};
+ghost use Rattle.rules.specs.Answers.{Answer, Shown, changeSays, beginSays, nextSays, tallySays, owedSays};
+ghost use Rattle.rules.specs.Contracts.{Answers, HandsOut, NoCopy};
+ghost use Rattle.rules.specs.Refusals.{Call, Change, Reading};
+ghost use Rattle.inarumpit.specs.WayIn.{wayIn};
 use rules::BeginAnswer;
 use rules::ChangeAnswer;
 use rules::NextAnswer;
@@ -13,24 +13,36 @@ use rules::RecordNumber;
 use rules::TallyAnswer;
 use rules::Ticket;
 
-fn slots_right(bytes: usize, most: usize) -> bool
-    ensures { λ r. ⌜ r ≡ slotsRight bytes most ⌝ }
+// The way in of every call that looks at the desk: 0 where it is open, else the number of the refusal.
+fn way_in(desk: &[u8], table: &[u8], shelf: &[u8]) -> u8
+    ensures { λ r. ⌜ r ≡ wayIn true true (now (desk .entry)) (now (table .entry)) (now (shelf .entry)) ⌝ }
 {
-    (bytes % 64 == 0) & ((1 <= bytes / 64) & (bytes / 64 <= most))
+    if numbers::lengths::lengths_right(desk.len(), table.len(), shelf.len()) {
+        if desk::is_sound(desk, table, shelf) {
+            return 0;
+        }
+        return 2;
+    }
+    1
 }
 
-fn lengths_right(desk: usize, table: usize, shelf: usize) -> bool
-    ensures { λ r. ⌜ r ≡ lengthsRight desk table shelf ⌝ }
+// The same of a call with a buffer of its own, whose length is right where `own`.
+fn own_way_in(own: bool, desk: &[u8], table: &[u8], shelf: &[u8]) -> u8
+    ensures { λ r. ⌜ r ≡ wayIn own true (now (desk .entry)) (now (table .entry)) (now (shelf .entry)) ⌝ }
 {
-    let slots = slots_right(table, 16384);
-    let entries = slots_right(shelf, 1048576);
-    (desk == 1088) & (slots & entries)
+    if own & numbers::lengths::lengths_right(desk.len(), table.len(), shelf.len()) {
+        if desk::is_sound(desk, table, shelf) {
+            return 0;
+        }
+        return 2;
+    }
+    1
 }
 
 pub fn open(desk: &mut [u8], table: &mut [u8], shelf: &mut [u8], n: u32) -> ChangeAnswer
-    ensures { λ r. ⌜ reply (changeSays r) (lent (now (desk .exit)) (now (table .exit)) (now (shelf .exit))) [] ≡ called (lent (now (desk .entry)) (now (table .entry)) (now (shelf .entry))) (Call.opening n) ⌝ }
+    ensures { λ r. ⌜ Answers (changeSays r) desk table shelf (Call.opening n) ⌝ }
 {
-    if lengths_right(desk.len(), table.len(), shelf.len()) {
+    if numbers::lengths::lengths_right(desk.len(), table.len(), shelf.len()) {
         return changes::open(desk, table, shelf, n);
     }
     ChangeAnswer::Refused(1)
@@ -43,15 +55,13 @@ pub fn insert(
     k: RecordNumber,
     body: &[u8],
 ) -> ChangeAnswer
-    ensures { λ r. ⌜ reply (changeSays r) (lent (now (desk .entry)) (now (table .exit)) (now (shelf .entry))) [] ≡ called (lent (now (desk .entry)) (now (table .entry)) (now (shelf .entry))) (Call.insert (k .0) (now (body .entry))) ⌝ }
+    ensures { λ r. ⌜ Answers (changeSays r) desk table shelf (Call.change (Change.insert (k .0) (now (body .entry)))) ⌝ }
 {
-    if (body.len() == 52) & lengths_right(desk.len(), table.len(), shelf.len()) {
-        if desk::is_sound(desk, table, shelf) {
-            return changes::insert(desk, table, k, body);
-        }
-        return ChangeAnswer::Refused(2);
+    let shut = own_way_in(body.len() == 52, desk, table, shelf);
+    if shut == 0 {
+        return changes::insert(desk, table, k, body);
     }
-    ChangeAnswer::Refused(1)
+    ChangeAnswer::Refused(shut)
 }
 
 pub fn modify(
@@ -61,93 +71,78 @@ pub fn modify(
     k: RecordNumber,
     body: &[u8],
 ) -> ChangeAnswer
-    ensures { λ r. ⌜ reply (changeSays r) (lent (now (desk .entry)) (now (table .exit)) (now (shelf .exit))) [] ≡ called (lent (now (desk .entry)) (now (table .entry)) (now (shelf .entry))) (Call.modify (k .0) (now (body .entry))) ⌝ }
+    ensures { λ r. ⌜ Answers (changeSays r) desk table shelf (Call.change (Change.modify (k .0) (now (body .entry)))) ⌝ }
 {
-    if (body.len() == 52) & lengths_right(desk.len(), table.len(), shelf.len()) {
-        if desk::is_sound(desk, table, shelf) {
-            return changes::modify(desk, table, shelf, k, body);
-        }
-        return ChangeAnswer::Refused(2);
+    let shut = own_way_in(body.len() == 52, desk, table, shelf);
+    if shut == 0 {
+        return changes::modify(desk, table, shelf, k, body);
     }
-    ChangeAnswer::Refused(1)
+    ChangeAnswer::Refused(shut)
 }
 
 pub fn delete(desk: &[u8], table: &mut [u8], shelf: &mut [u8], k: RecordNumber) -> ChangeAnswer
-    ensures { λ r. ⌜ reply (changeSays r) (lent (now (desk .entry)) (now (table .exit)) (now (shelf .exit))) [] ≡ called (lent (now (desk .entry)) (now (table .entry)) (now (shelf .entry))) (Call.delete (k .0)) ⌝ }
+    ensures { λ r. ⌜ Answers (changeSays r) desk table shelf (Call.change (Change.delete (k .0))) ⌝ }
 {
-    if lengths_right(desk.len(), table.len(), shelf.len()) {
-        if desk::is_sound(desk, table, shelf) {
-            return changes::delete(desk, table, shelf, k);
-        }
-        return ChangeAnswer::Refused(2);
+    let shut = way_in(desk, table, shelf);
+    if shut == 0 {
+        return changes::delete(desk, table, shelf, k);
     }
-    ChangeAnswer::Refused(1)
+    ChangeAnswer::Refused(shut)
 }
 
 pub fn begin(desk: &mut [u8], table: &[u8], shelf: &[u8]) -> BeginAnswer
-    ensures { λ r. ⌜ reply (beginSays r) (lent (now (desk .exit)) (now (table .entry)) (now (shelf .entry))) [] ≡ called (lent (now (desk .entry)) (now (table .entry)) (now (shelf .entry))) Call.begin ⌝ }
+    ensures { λ r. ⌜ Answers (beginSays r) desk table shelf Call.begin ⌝ }
 {
-    if lengths_right(desk.len(), table.len(), shelf.len()) {
-        if desk::is_sound(desk, table, shelf) {
-            return scans::begin(desk);
-        }
-        return BeginAnswer::Refused(2);
+    let shut = way_in(desk, table, shelf);
+    if shut == 0 {
+        return scans::begin(desk);
     }
-    BeginAnswer::Refused(1)
+    BeginAnswer::Refused(shut)
 }
 
 pub fn next(
     desk: &mut [u8],
     table: &mut [u8],
     shelf: &mut [u8],
-    t: Ticket,
+    ticket: Ticket,
     budget: u32,
     out: &mut [u8],
 ) -> NextAnswer
-    ensures { λ r. ⌜ reply (nextSays r) (lent (now (desk .exit)) (now (table .exit)) (now (shelf .exit))) (now (out .exit)) ≡ called (lent (now (desk .entry)) (now (table .entry)) (now (shelf .entry))) (Call.next (t .0) budget (now (out .entry))) ⌝ }
+    ensures { λ r. ⌜ HandsOut (nextSays r) desk table shelf out (Call.next (ticket .0) budget (now (out .entry))) ⌝ }
 {
-    if (out.len() == 56) & lengths_right(desk.len(), table.len(), shelf.len()) {
-        if desk::is_sound(desk, table, shelf) {
-            return scans::next(desk, table, shelf, t, budget, out);
-        }
-        return NextAnswer::Refused(2);
+    let shut = own_way_in(out.len() == 56, desk, table, shelf);
+    if shut == 0 {
+        return scans::next(desk, table, shelf, ticket, budget, out);
     }
-    NextAnswer::Refused(1)
+    NextAnswer::Refused(shut)
 }
 
 pub fn tally(desk: &[u8], table: &[u8], shelf: &[u8]) -> TallyAnswer
-    ensures { λ r. ⌜ reply (tallySays r) (lent (now (desk .entry)) (now (table .entry)) (now (shelf .entry))) [] ≡ called (lent (now (desk .entry)) (now (table .entry)) (now (shelf .entry))) Call.tally ⌝ }
+    ensures { λ r. ⌜ Answers (tallySays r) desk table shelf (Call.reading Reading.tally) ⌝ }
 {
-    if lengths_right(desk.len(), table.len(), shelf.len()) {
-        if desk::is_sound(desk, table, shelf) {
-            return scans::tally(table, shelf);
-        }
-        return TallyAnswer::Refused(2);
+    let shut = way_in(desk, table, shelf);
+    if shut == 0 {
+        return scans::tally(table, shelf);
     }
-    TallyAnswer::Refused(1)
+    TallyAnswer::Refused(shut)
 }
 
-pub fn owed(desk: &[u8], table: &[u8], shelf: &[u8], t: Ticket) -> OwedAnswer
-    ensures { λ r. ⌜ reply (owedSays r) (lent (now (desk .entry)) (now (table .entry)) (now (shelf .entry))) [] ≡ called (lent (now (desk .entry)) (now (table .entry)) (now (shelf .entry))) (Call.owed (t .0)) ⌝ }
+pub fn owed(desk: &[u8], table: &[u8], shelf: &[u8], ticket: Ticket) -> OwedAnswer
+    ensures { λ r. ⌜ Answers (owedSays r) desk table shelf (Call.reading (Reading.owed (ticket .0))) ⌝ }
 {
-    if lengths_right(desk.len(), table.len(), shelf.len()) {
-        if desk::is_sound(desk, table, shelf) {
-            return scans::owed(desk, table, shelf, t);
-        }
-        return OwedAnswer::Refused(2);
+    let shut = way_in(desk, table, shelf);
+    if shut == 0 {
+        return scans::owed(desk, table, shelf, ticket);
     }
-    OwedAnswer::Refused(1)
+    OwedAnswer::Refused(shut)
 }
 
 // The 56 bytes that next with unbounded budget would hand out, as a part of table or shelf; an empty part in every other case.
-pub fn peek<'a>(desk: &[u8], table: &'a [u8], shelf: &'a [u8], t: Ticket) -> &'a [u8]
-    ensures { λ r. ⌜ reply (part (now r)) (lent (now (desk .entry)) (now (table .entry)) (now (shelf .entry))) [] ≡ called (lent (now (desk .entry)) (now (table .entry)) (now (shelf .entry))) (Call.peek (t .0)) ⌝ }
+pub fn peek<'a>(desk: &[u8], table: &'a [u8], shelf: &'a [u8], ticket: Ticket) -> &'a [u8]
+    ensures { λ r. ⌜ Answers (Answer.shown (Shown.part (now r))) desk table shelf (Call.reading (Reading.peek (ticket .0))) × NoCopy r table shelf ⌝ }
 {
-    if lengths_right(desk.len(), table.len(), shelf.len()) {
-        if desk::is_sound(desk, table, shelf) {
-            return scans::peek::peek(desk, table, shelf, t);
-        }
-        return &table[0..0];
+    if way_in(desk, table, shelf) == 0 {
+        return scans::peek::peek(desk, table, shelf, ticket);
     }
     &table[0..0]
 }

@@ -1,19 +1,16 @@
 // The calls for the C host: numbers and byte buffers in, one 64-bit number back, answer + 256 × value.
-ghost use mathlib.Core.List.{[]};
-ghost use mathlib.Core.Path.{_≡_};
-ghost use Rattle.rules.specs.Memory.{lent};
-ghost use Rattle.rules.specs.Refusals.{Call, called, returned, packedReply};
+ghost use Rattle.rules.specs.Contracts.{Returns, ReturnsOut};
+ghost use Rattle.rules.specs.Refusals.{Call, Change, Reading};
 use rules::RecordNumber;
 use rules::Ticket;
 
 pub mod calls;
-mod pack;
 
 #[no_mangle]
 pub extern "C" fn inarumpit_open(desk: &mut [u8], table: &mut [u8], shelf: &mut [u8], n: u32) -> u64
-    ensures { λ r. ⌜ returned r (lent (now (desk .exit)) (now (table .exit)) (now (shelf .exit))) [] ≡ packedReply (called (lent (now (desk .entry)) (now (table .entry)) (now (shelf .entry))) (Call.opening n)) ⌝ }
+    ensures { λ r. ⌜ Returns r desk table shelf (Call.opening n) ⌝ }
 {
-    pack::change(calls::open(desk, table, shelf, n))
+    numbers::pack::change(calls::open(desk, table, shelf, n))
 }
 
 #[no_mangle]
@@ -24,9 +21,9 @@ pub extern "C" fn inarumpit_insert(
     number: u32,
     body: &[u8],
 ) -> u64
-    ensures { λ r. ⌜ returned r (lent (now (desk .entry)) (now (table .exit)) (now (shelf .entry))) [] ≡ packedReply (called (lent (now (desk .entry)) (now (table .entry)) (now (shelf .entry))) (Call.insert number (now (body .entry)))) ⌝ }
+    ensures { λ r. ⌜ Returns r desk table shelf (Call.change (Change.insert number (now (body .entry)))) ⌝ }
 {
-    pack::change(calls::insert(desk, table, shelf, RecordNumber(number), body))
+    numbers::pack::change(calls::insert(desk, table, shelf, RecordNumber(number), body))
 }
 
 #[no_mangle]
@@ -37,9 +34,9 @@ pub extern "C" fn inarumpit_modify(
     number: u32,
     body: &[u8],
 ) -> u64
-    ensures { λ r. ⌜ returned r (lent (now (desk .entry)) (now (table .exit)) (now (shelf .exit))) [] ≡ packedReply (called (lent (now (desk .entry)) (now (table .entry)) (now (shelf .entry))) (Call.modify number (now (body .entry)))) ⌝ }
+    ensures { λ r. ⌜ Returns r desk table shelf (Call.change (Change.modify number (now (body .entry)))) ⌝ }
 {
-    pack::change(calls::modify(desk, table, shelf, RecordNumber(number), body))
+    numbers::pack::change(calls::modify(desk, table, shelf, RecordNumber(number), body))
 }
 
 #[no_mangle]
@@ -49,16 +46,16 @@ pub extern "C" fn inarumpit_delete(
     shelf: &mut [u8],
     number: u32,
 ) -> u64
-    ensures { λ r. ⌜ returned r (lent (now (desk .entry)) (now (table .exit)) (now (shelf .exit))) [] ≡ packedReply (called (lent (now (desk .entry)) (now (table .entry)) (now (shelf .entry))) (Call.delete number)) ⌝ }
+    ensures { λ r. ⌜ Returns r desk table shelf (Call.change (Change.delete number)) ⌝ }
 {
-    pack::change(calls::delete(desk, table, shelf, RecordNumber(number)))
+    numbers::pack::change(calls::delete(desk, table, shelf, RecordNumber(number)))
 }
 
 #[no_mangle]
 pub extern "C" fn inarumpit_begin(desk: &mut [u8], table: &[u8], shelf: &[u8]) -> u64
-    ensures { λ r. ⌜ returned r (lent (now (desk .exit)) (now (table .entry)) (now (shelf .entry))) [] ≡ packedReply (called (lent (now (desk .entry)) (now (table .entry)) (now (shelf .entry))) Call.begin) ⌝ }
+    ensures { λ r. ⌜ Returns r desk table shelf Call.begin ⌝ }
 {
-    pack::begin(calls::begin(desk, table, shelf))
+    numbers::pack::begin(calls::begin(desk, table, shelf))
 }
 
 #[no_mangle]
@@ -70,21 +67,21 @@ pub extern "C" fn inarumpit_next(
     budget: u32,
     out: &mut [u8],
 ) -> u64
-    ensures { λ r. ⌜ returned r (lent (now (desk .exit)) (now (table .exit)) (now (shelf .exit))) (now (out .exit)) ≡ packedReply (called (lent (now (desk .entry)) (now (table .entry)) (now (shelf .entry))) (Call.next ticket budget (now (out .entry)))) ⌝ }
+    ensures { λ r. ⌜ ReturnsOut r desk table shelf out (Call.next ticket budget (now (out .entry))) ⌝ }
 {
-    pack::next(calls::next(desk, table, shelf, Ticket(ticket), budget, out))
+    numbers::pack::next(calls::next(desk, table, shelf, Ticket(ticket), budget, out))
 }
 
 #[no_mangle]
 pub extern "C" fn inarumpit_tally(desk: &[u8], table: &[u8], shelf: &[u8]) -> u64
-    ensures { λ r. ⌜ returned r (lent (now (desk .entry)) (now (table .entry)) (now (shelf .entry))) [] ≡ packedReply (called (lent (now (desk .entry)) (now (table .entry)) (now (shelf .entry))) Call.tally) ⌝ }
+    ensures { λ r. ⌜ Returns r desk table shelf (Call.reading Reading.tally) ⌝ }
 {
-    pack::tally(calls::tally(desk, table, shelf))
+    numbers::pack::tally(calls::tally(desk, table, shelf))
 }
 
 #[no_mangle]
 pub extern "C" fn inarumpit_owed(desk: &[u8], table: &[u8], shelf: &[u8], ticket: u32) -> u64
-    ensures { λ r. ⌜ returned r (lent (now (desk .entry)) (now (table .entry)) (now (shelf .entry))) [] ≡ packedReply (called (lent (now (desk .entry)) (now (table .entry)) (now (shelf .entry))) (Call.owed ticket)) ⌝ }
+    ensures { λ r. ⌜ Returns r desk table shelf (Call.reading (Reading.owed ticket)) ⌝ }
 {
-    pack::owed(calls::owed(desk, table, shelf, Ticket(ticket)))
+    numbers::pack::owed(calls::owed(desk, table, shelf, Ticket(ticket)))
 }

@@ -5,12 +5,12 @@ use mathlib.Core.Option.{none, some}
 use mathlib.Core.List.{List, []}
 use Prim.Native.Nat.{ℕ, _+_, _≤_, _<_}
 use borrow.Author.Tests.{lt-ltb, le-ltb, eq-eqb, ne-eqb}
-use Rattle.rules.specs.Answers.{done, begun, counted, owing, part, refused}
+use Rattle.rules.specs.Answers.{Answer, Shown, done, begun, refused}
 use Rattle.rules.specs.Calls.{bearing, emptySlot, shelfEntry, freePosition, positionOf, opened, inserted, mAt, changedBy, given, used, owedBy}
 use Rattle.rules.specs.Masks.{ones}
 use Rattle.rules.specs.Memory.{Store, T, R}
 use Rattle.rules.specs.Next.{told, walk, peeked}
-use Rattle.rules.specs.Refusals.{Call, firstOf, ownRefusals, kindRight, effect, refusedAs, outOf, settled, step}
+use Rattle.rules.specs.Refusals.{Call, Change, Reading, firstOf, ownRefusals, kindRight, effect, refusedAs, outOf, settled, step}
 use Rattle.rules.specs.Sound.{nInRange}
 
 module _ (S : Store) where
@@ -25,79 +25,79 @@ module _ (S : Store) where
 
   -- ---- insert
   module _ (k : ℕ) (b : List ℕ) where
-    pub insert-zero : k ≡ 0 → told (refused 3) S [] ≡ step S (Call.insert k b)
+    pub insert-zero : k ≡ 0 → told (refused 3) S [] ≡ step S (Call.change (Change.insert k b))
     unfolding step settled ownRefusals firstOf refusedAs outOf
     insert-zero z = rw (eq-eqb _ _ z) refl
 
-    pub insert-kind : (k ≡ 0 → ⊥) → kindRight b ≡ false → told (refused 4) S [] ≡ step S (Call.insert k b)
+    pub insert-kind : (k ≡ 0 → ⊥) → kindRight b ≡ false → told (refused 4) S [] ≡ step S (Call.change (Change.insert k b))
     unfolding step settled ownRefusals firstOf refusedAs outOf
     insert-kind z e = rw (ne-eqb _ _ z, e) refl
 
     module _ (z : k ≡ 0 → ⊥) (e : kindRight b ≡ true) where
-      pub insert-there : bearing (S .table) k < T S → told (refused 5) S [] ≡ step S (Call.insert k b)
+      pub insert-there : bearing (S .table) k < T S → told (refused 5) S [] ≡ step S (Call.change (Change.insert k b))
       unfolding step settled ownRefusals firstOf refusedAs outOf
       insert-there h = rw (ne-eqb _ _ z, e, lt-ltb _ _ h) refl
 
       module _ (h : T S ≤ bearing (S .table) k) where
-        pub insert-full : T S ≤ emptySlot (S .table) → told (refused 7) S [] ≡ step S (Call.insert k b)
+        pub insert-full : T S ≤ emptySlot (S .table) → told (refused 7) S [] ≡ step S (Call.change (Change.insert k b))
         unfolding step settled ownRefusals firstOf refusedAs outOf
         insert-full g = rw (ne-eqb _ _ z, e, le-ltb _ _ h, le-ltb _ _ g) refl
 
-        pub insert-done : emptySlot (S .table) < T S → told done (inserted S k b) [] ≡ step S (Call.insert k b)
+        pub insert-done : emptySlot (S .table) < T S → told done (inserted S k b) [] ≡ step S (Call.change (Change.insert k b))
         unfolding step settled ownRefusals firstOf effect
         insert-done g = rw (ne-eqb _ _ z, e, le-ltb _ _ h, lt-ltb _ _ g) refl
 
   -- ---- modify
   module _ (k : ℕ) (b : List ℕ) where
-    pub modify-zero : k ≡ 0 → told (refused 3) S [] ≡ step S (Call.modify k b)
+    pub modify-zero : k ≡ 0 → told (refused 3) S [] ≡ step S (Call.change (Change.modify k b))
     unfolding step settled ownRefusals firstOf refusedAs outOf
     modify-zero z = rw (eq-eqb _ _ z) refl
 
-    pub modify-kind : (k ≡ 0 → ⊥) → kindRight b ≡ false → told (refused 4) S [] ≡ step S (Call.modify k b)
+    pub modify-kind : (k ≡ 0 → ⊥) → kindRight b ≡ false → told (refused 4) S [] ≡ step S (Call.change (Change.modify k b))
     unfolding step settled ownRefusals firstOf refusedAs outOf
     modify-kind z e = rw (ne-eqb _ _ z, e) refl
 
     module _ (z : k ≡ 0 → ⊥) (e : kindRight b ≡ true) where
-      pub modify-absent : T S ≤ bearing (S .table) k → told (refused 6) S [] ≡ step S (Call.modify k b)
+      pub modify-absent : T S ≤ bearing (S .table) k → told (refused 6) S [] ≡ step S (Call.change (Change.modify k b))
       unfolding step settled ownRefusals firstOf refusedAs outOf
       modify-absent h = rw (ne-eqb _ _ z, e, le-ltb _ _ h) refl
 
       module _ (h : bearing (S .table) k < T S) where
-        pub modify-unawaited : mAt S (bearing (S .table) k) ≡ ones 64 → told done (changedBy true S (bearing (S .table) k) (some b)) [] ≡ step S (Call.modify k b)
+        pub modify-unawaited : mAt S (bearing (S .table) k) ≡ ones 64 → told done (changedBy true S (bearing (S .table) k) (some b)) [] ≡ step S (Call.change (Change.modify k b))
         unfolding step settled ownRefusals firstOf effect
         modify-unawaited m = rw (ne-eqb _ _ z, e, lt-ltb _ _ h, eq-eqb _ _ m) (rw (eq-eqb _ _ m) refl)
 
         module _ (m : mAt S (bearing (S .table) k) ≡ ones 64 → ⊥) where
-          pub modify-room : R S ≤ shelfEntry S → told (refused 8) S [] ≡ step S (Call.modify k b)
+          pub modify-room : R S ≤ shelfEntry S → told (refused 8) S [] ≡ step S (Call.change (Change.modify k b))
           unfolding step settled ownRefusals firstOf refusedAs outOf
           modify-room g = rw (ne-eqb _ _ z, e, lt-ltb _ _ h, ne-eqb _ _ m, le-ltb _ _ g) refl
 
-          pub modify-awaited : shelfEntry S < R S → told done (changedBy false S (bearing (S .table) k) (some b)) [] ≡ step S (Call.modify k b)
+          pub modify-awaited : shelfEntry S < R S → told done (changedBy false S (bearing (S .table) k) (some b)) [] ≡ step S (Call.change (Change.modify k b))
           unfolding step settled ownRefusals firstOf effect
           modify-awaited g = rw (ne-eqb _ _ z, e, lt-ltb _ _ h, ne-eqb _ _ m, lt-ltb _ _ g) (rw (ne-eqb _ _ m) refl)
 
   -- ---- delete
   module _ (k : ℕ) where
-    pub delete-zero : k ≡ 0 → told (refused 3) S [] ≡ step S (Call.delete k)
+    pub delete-zero : k ≡ 0 → told (refused 3) S [] ≡ step S (Call.change (Change.delete k))
     unfolding step settled ownRefusals firstOf refusedAs outOf
     delete-zero z = rw (eq-eqb _ _ z) refl
 
     module _ (z : k ≡ 0 → ⊥) where
-      pub delete-absent : T S ≤ bearing (S .table) k → told (refused 6) S [] ≡ step S (Call.delete k)
+      pub delete-absent : T S ≤ bearing (S .table) k → told (refused 6) S [] ≡ step S (Call.change (Change.delete k))
       unfolding step settled ownRefusals firstOf refusedAs outOf
       delete-absent h = rw (ne-eqb _ _ z, le-ltb _ _ h) refl
 
       module _ (h : bearing (S .table) k < T S) where
-        pub delete-unawaited : mAt S (bearing (S .table) k) ≡ ones 64 → told done (changedBy true S (bearing (S .table) k) none) [] ≡ step S (Call.delete k)
+        pub delete-unawaited : mAt S (bearing (S .table) k) ≡ ones 64 → told done (changedBy true S (bearing (S .table) k) none) [] ≡ step S (Call.change (Change.delete k))
         unfolding step settled ownRefusals firstOf effect
         delete-unawaited m = rw (ne-eqb _ _ z, lt-ltb _ _ h, eq-eqb _ _ m) (rw (eq-eqb _ _ m) refl)
 
         module _ (m : mAt S (bearing (S .table) k) ≡ ones 64 → ⊥) where
-          pub delete-room : R S ≤ shelfEntry S → told (refused 8) S [] ≡ step S (Call.delete k)
+          pub delete-room : R S ≤ shelfEntry S → told (refused 8) S [] ≡ step S (Call.change (Change.delete k))
           unfolding step settled ownRefusals firstOf refusedAs outOf
           delete-room g = rw (ne-eqb _ _ z, lt-ltb _ _ h, ne-eqb _ _ m, le-ltb _ _ g) refl
 
-          pub delete-awaited : shelfEntry S < R S → told done (changedBy false S (bearing (S .table) k) none) [] ≡ step S (Call.delete k)
+          pub delete-awaited : shelfEntry S < R S → told done (changedBy false S (bearing (S .table) k) none) [] ≡ step S (Call.change (Change.delete k))
           unfolding step settled ownRefusals firstOf effect
           delete-awaited g = rw (ne-eqb _ _ z, lt-ltb _ _ h, ne-eqb _ _ m, lt-ltb _ _ g) (rw (ne-eqb _ _ m) refl)
 
@@ -130,31 +130,31 @@ module _ (S : Store) where
       next-goes h = rw (ne-eqb _ _ z, lt-ltb _ _ h) refl
 
   module _ (t : ℕ) where
-    pub peek-zero : t ≡ 0 → told (part []) S [] ≡ step S (Call.peek t)
+    pub peek-zero : t ≡ 0 → told (Answer.shown (Shown.part [])) S [] ≡ step S (Call.reading (Reading.peek t))
     unfolding step settled ownRefusals firstOf refusedAs outOf
     peek-zero z = rw (eq-eqb _ _ z) refl
 
-    pub owed-zero : t ≡ 0 → told (refused 10) S [] ≡ step S (Call.owed t)
+    pub owed-zero : t ≡ 0 → told (refused 10) S [] ≡ step S (Call.reading (Reading.owed t))
     unfolding step settled ownRefusals firstOf refusedAs outOf
     owed-zero z = rw (eq-eqb _ _ z) refl
 
     module _ (z : t ≡ 0 → ⊥) where
-      pub peek-none : 64 ≤ positionOf S t → told (part []) S [] ≡ step S (Call.peek t)
+      pub peek-none : 64 ≤ positionOf S t → told (Answer.shown (Shown.part [])) S [] ≡ step S (Call.reading (Reading.peek t))
       unfolding step settled ownRefusals firstOf refusedAs outOf
       peek-none h = rw (ne-eqb _ _ z, le-ltb _ _ h) refl
 
-      pub peek-goes : positionOf S t < 64 → told (part (peeked S t)) S [] ≡ step S (Call.peek t)
+      pub peek-goes : positionOf S t < 64 → told (Answer.shown (Shown.part (peeked S t))) S [] ≡ step S (Call.reading (Reading.peek t))
       unfolding step settled ownRefusals firstOf effect
       peek-goes h = rw (ne-eqb _ _ z, lt-ltb _ _ h) refl
 
-      pub owed-none : 64 ≤ positionOf S t → told (refused 10) S [] ≡ step S (Call.owed t)
+      pub owed-none : 64 ≤ positionOf S t → told (refused 10) S [] ≡ step S (Call.reading (Reading.owed t))
       unfolding step settled ownRefusals firstOf refusedAs outOf
       owed-none h = rw (ne-eqb _ _ z, le-ltb _ _ h) refl
 
-      pub owed-goes : positionOf S t < 64 → told (owing (owedBy S (positionOf S t))) S [] ≡ step S (Call.owed t)
+      pub owed-goes : positionOf S t < 64 → told (Answer.shown (Shown.owing (owedBy S (positionOf S t)))) S [] ≡ step S (Call.reading (Reading.owed t))
       unfolding step settled ownRefusals firstOf effect
       owed-goes h = rw (ne-eqb _ _ z, lt-ltb _ _ h) refl
 
-  pub tally-done : told (counted (used (S .table)) (used (S .shelf))) S [] ≡ step S Call.tally
+  pub tally-done : told (Answer.shown (Shown.counted (used (S .table)) (used (S .shelf)))) S [] ≡ step S (Call.reading Reading.tally)
   unfolding step settled ownRefusals firstOf effect
   tally-done = refl

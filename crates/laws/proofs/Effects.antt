@@ -11,7 +11,7 @@ use lib.Seq.{set-set, getD-set-same}
 use Rattle.rules.specs.Bytes.{toLe, field, u32At, u64At}
 use Rattle.rules.specs.Calls.{emptySlot, shelfEntry, inserted, mAt, changedBy}
 use Rattle.rules.specs.Masks.{newStatus, mOf, STATUS-MASK-UPD}
-use Rattle.rules.specs.Memory.{lent, Slot, slot, free, slotAt, slotsOf, masksOf, deskOf, read}
+use Rattle.rules.specs.Memory.{Slot, slot, free, slotAt, slotsOf, masksOf, deskOf, storeOf}
 use Rattle.rules.proofs.Bits.{not-small}
 use Rattle.rules.proofs.Bytes.{length-field, length-toLe}
 use Rattle.layout.specs.Puts.{put, put32, put64}
@@ -73,31 +73,31 @@ unfolding newStatus STATUS-MASK-UPD
 status-small m = not-small 64 _
 
 module _ (d t s : List ℕ) (i : ℕ) (there : i < length t / 64) where
-  pub m-at : mOf (masksOf d) (u64At t (i * 64 + 56)) ≡ mAt (read (lent d t s)) i
-  unfolding read deskOf
+  pub m-at : mOf (masksOf d) (u64At t (i * 64 + 56)) ≡ mAt (storeOf d t s) i
+  unfolding storeOf deskOf
   m-at = rw (at t i there) refl
 
   pub inserted-spelt : (k : ℕ) (b : List ℕ) → k < 4294967296 → length b ≡ 52 → emptySlot (slotsOf t) ≡ i
-      → read (lent d (put64 (put (put32 t (i * 64) k) (i * 64 + 4) b) (i * 64 + 56) (newStatus (masksOf d))) s) ≡ inserted (read (lent d t s)) k b
-  unfolding read deskOf inserted
+      → storeOf d (put64 (put (put32 t (i * 64) k) (i * 64 + 4) b) (i * 64 + 56) (newStatus (masksOf d))) s ≡ inserted (storeOf d t s) k b
+  unfolding storeOf deskOf inserted
   inserted-spelt k b sk e h = rw (slot-put t i there k b (newStatus (masksOf d)) sk e (status-small (masksOf d)), h) refl
 
-  pub modified-spelt : (b : List ℕ) → length b ≡ 52 → read (lent d (put t (i * 64 + 4) b) s) ≡ changedBy true (read (lent d t s)) i (some b)
-  unfolding read deskOf changedBy
+  pub modified-spelt : (b : List ℕ) → length b ≡ 52 → storeOf d (put t (i * 64 + 4) b) s ≡ changedBy true (storeOf d t s) i (some b)
+  unfolding storeOf deskOf changedBy
   modified-spelt b e = rw (at t i there, body-put t i there b e) refl
 
-  pub deleted-spelt : read (lent d (put t (i * 64) (replicate 64 0)) s) ≡ changedBy true (read (lent d t s)) i none
-  unfolding read deskOf changedBy
+  pub deleted-spelt : storeOf d (put t (i * 64) (replicate 64 0)) s ≡ changedBy true (storeOf d t s) i none
+  unfolding storeOf deskOf changedBy
   deleted-spelt = rw (clear-put t i there) refl
 
   -- with the present version on the shelf
-  module _ (e m : ℕ) (he : e < length s / 64) (entry : shelfEntry (read (lent d t s)) ≡ e) (sm : m < 2 ^ 64) (em : m ≡ mAt (read (lent d t s)) i) where
+  module _ (e m : ℕ) (he : e < length s / 64) (entry : shelfEntry (storeOf d t s) ≡ e) (sm : m < 2 ^ 64) (em : m ≡ mAt (storeOf d t s) i) where
     pub modified-shelved-spelt : (b : List ℕ) → length b ≡ 52
-        → read (lent d (put64 (put t (i * 64 + 4) b) (i * 64 + 56) (newStatus (masksOf d))) (put64 (put s (e * 64) (field 56 (i * 64) t)) (e * 64 + 56) m)) ≡ changedBy false (read (lent d t s)) i (some b)
-    unfolding read deskOf changedBy
+        → storeOf d (put64 (put t (i * 64 + 4) b) (i * 64 + 56) (newStatus (masksOf d))) (put64 (put s (e * 64) (field 56 (i * 64) t)) (e * 64 + 56) m) ≡ changedBy false (storeOf d t s) i (some b)
+    unfolding storeOf deskOf changedBy
     modified-shelved-spelt b eb =
         rw (at t i there, body-mask-put t i there b (newStatus (masksOf d)) eb (status-small (masksOf d)), shelved-put t s i e m there he sm, entry, em, at t i there) refl
 
-    pub deleted-shelved-spelt : read (lent d (put t (i * 64) (replicate 64 0)) (put64 (put s (e * 64) (field 56 (i * 64) t)) (e * 64 + 56) m)) ≡ changedBy false (read (lent d t s)) i none
-    unfolding read deskOf changedBy
+    pub deleted-shelved-spelt : storeOf d (put t (i * 64) (replicate 64 0)) (put64 (put s (e * 64) (field 56 (i * 64) t)) (e * 64 + 56) m) ≡ changedBy false (storeOf d t s) i none
+    unfolding storeOf deskOf changedBy
     deleted-shelved-spelt = rw (clear-put t i there, shelved-put t s i e m there he sm, entry, em, at t i there) refl

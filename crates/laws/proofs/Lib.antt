@@ -7,4 +7,3 @@ pub mod Walks
 pub mod Cases
 pub mod Effects
 pub mod Opens
-pub mod Replies

@@ -8,7 +8,7 @@ use lib.Seq.{ext-getD, getD-take, getD-drop, length-take-le}
 use Rattle.rules.specs.Bytes.{le, toLe, field, u32At, u64At}
 use Rattle.rules.specs.Calls.{opened}
 use Rattle.rules.specs.Masks.{masks, fresh}
-use Rattle.rules.specs.Memory.{lent, free, idle, desk, each, slotAt, slotsOf, cardAt, deskOf, read, masksBytes}
+use Rattle.rules.specs.Memory.{free, idle, desk, each, slotAt, slotsOf, cardAt, deskOf, storeOf, masksBytes}
 use Rattle.rules.proofs.Bytes.{length-toLe}
 use Rattle.rules.proofs.Each.{each-same}
 use Rattle.layout.specs.Puts.{put, put32}
@@ -92,8 +92,8 @@ module _ (n t r : ℕ) (sn : n < 4294967296) (st : t < 4294967296) (sr : r < 429
 
   -- what the code of an opening writes
   pub opened-spelt : (a b : ℕ) → a / 64 ≡ t → b / 64 ≡ r
-      → read (lent (put (put32 (put32 (put32 (replicate 1088 0) 0 n) 4 t) 8 r) 16 (masksBytes fresh)) (replicate a 0) (replicate b 0)) ≡ opened n t r
-  unfolding read opened
+      → storeOf (put (put32 (put32 (put32 (replicate 1088 0) 0 n) 4 t) 8 r) 16 (masksBytes fresh)) (replicate a 0) (replicate b 0) ≡ opened n t r
+  unfolding storeOf opened
   opened-spelt a b ea eb =
       let d : List ℕ = put (replicate 1088 0) 0 (toLe 4 n ++ (toLe 4 t ++ toLe 4 r)) in
       let k : length d ≡ 1088 = length-put (replicate 1088 0) 0 (toLe 4 n ++ (toLe 4 t ++ toLe 4 r)) (omega (arith, length-head)) in

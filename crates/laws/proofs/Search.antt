@@ -17,7 +17,7 @@ use Rattle.rules.specs.Masks.{bit, off}
 use Rattle.rules.specs.Memory.{Slot, each, slotsOf}
 use Rattle.rules.proofs.Bits.{bit-xor, bit-low}
 use Rattle.laws.specs.Search.{bears, bearsOrEmpty, waiting}
-use Rattle.rules.proofs.First.{first-found, first-before, first-split-none, first-most, first-same, first-miss-four}
+use Rattle.rules.proofs.First.{first-found, first-before, first-split-none, first-most, first-same}
 use Rattle.laws.proofs.Slots.{count, at}
 
 -- ---- slot i of a buffer
@@ -25,12 +25,6 @@ use Rattle.laws.proofs.Slots.{count, at}
 module _ (l : List ℕ) (k i : ℕ) (h : i < length l / 64) where
   pub bears-is : bears (slotsOf l) k i ≡ eqb (u32At l (i * 64)) k
   bears-is = rw (at l i h) refl
-
-  pub bears-it : u32At l (i * 64) ≡ k → bears (slotsOf l) k i ≡ true
-  bears-it e = bears-is ∙ eq-eqb _ _ e
-
-  pub bears-not : (u32At l (i * 64) ≡ k → ⊥) → bears (slotsOf l) k i ≡ false
-  bears-not e = bears-is ∙ ne-eqb _ _ e
 
 pub bears-or-empty-is : (l : List ℕ) (k i : ℕ) → i < length l / 64 → bearsOrEmpty (slotsOf l) k i ≡ eqb (u32At l (i * 64)) k || eqb (u32At l (i * 64)) 0
 bears-or-empty-is l k i h = rw (at l i h) refl
@@ -49,27 +43,6 @@ module _ (l : List ℕ) (i : ℕ) (there : i + 4 ≤ length l / 64) where
 
   at-3 : i * 64 + 192 ≡ (i + 3) * 64
   at-3 = omega arith
-
-  -- none bears the number
-  pub four-bear-none : (k : ℕ) {a b c d : ℕ} → a ≡ u32At l (i * 64) → b ≡ u32At l (i * 64 + 64) → c ≡ u32At l (i * 64 + 128) → d ≡ u32At l (i * 64 + 192)
-      → (eqb a k || eqb b k) || (eqb c k || eqb d k) ≡ false → first (bears (slotsOf l) k) i (length l / 64 - i) ≡ first (bears (slotsOf l) k) (i + 4) (length l / 64 - (i + 4))
-  four-bear-none k ea eb ec ed h =
-      first-miss-four (bears (slotsOf l) k) i (length l / 64) there (is i (omega arith) (sym ea)) (is (i + 1) (omega arith) (ap (u32At l) (sym at-1) ∙ sym eb)) (is (i + 2) (omega arith) (ap (u32At l) (sym at-2) ∙ sym ec))
-      (is (i + 3) (omega arith) (ap (u32At l) (sym at-3) ∙ sym ed)) h
-    where
-      is : (j : ℕ) → j < length l / 64 → {x : ℕ} → u32At l (j * 64) ≡ x → bears (slotsOf l) k j ≡ eqb x k
-      is j q e = bears-is l k j q ∙ ap (λ (x : ℕ). eqb x k) e
-
-  -- all are in use, and none bears the number
-  pub four-taken : (k : ℕ) {a b c d : ℕ} → a ≡ u32At l (i * 64) → b ≡ u32At l (i * 64 + 64) → c ≡ u32At l (i * 64 + 128) → d ≡ u32At l (i * 64 + 192)
-      → ((eqb a k || eqb a 0) || (eqb b k || eqb b 0)) || ((eqb c k || eqb c 0) || (eqb d k || eqb d 0)) ≡ false
-      → first (bearsOrEmpty (slotsOf l) k) i (length l / 64 - i) ≡ first (bearsOrEmpty (slotsOf l) k) (i + 4) (length l / 64 - (i + 4))
-  four-taken k ea eb ec ed h =
-      first-miss-four (bearsOrEmpty (slotsOf l) k) i (length l / 64) there (is i (omega arith) (sym ea)) (is (i + 1) (omega arith) (ap (u32At l) (sym at-1) ∙ sym eb)) (is (i + 2) (omega arith) (ap (u32At l) (sym at-2) ∙ sym ec))
-      (is (i + 3) (omega arith) (ap (u32At l) (sym at-3) ∙ sym ed)) h
-    where
-      is : (j : ℕ) → j < length l / 64 → {x : ℕ} → u32At l (j * 64) ≡ x → bearsOrEmpty (slotsOf l) k j ≡ eqb x k || eqb x 0
-      is j q e = bears-or-empty-is l k j q ∙ ap (λ (x : ℕ). eqb x k || eqb x 0) e
 
   -- all are empty
   pub four-empty : {a b c d : ℕ} → a ≡ u32At l (i * 64) → b ≡ u32At l (i * 64 + 64) → c ≡ u32At l (i * 64 + 128) → d ≡ u32At l (i * 64 + 192)
@@ -99,20 +72,20 @@ bearing-is l k = rw (count l, sub-zero (length l / 64)) refl
 -- ---- one turn of a count
 
 -- 1 where a test passes
-abbrev pub one : Bool → ℕ
-one true = 1
-one false = 0
+abbrev pub oneIf : Bool → ℕ
+oneIf true = 1
+oneIf false = 0
 
-count-cons : (p : Slot → Bool) (s : Slot) (ss : List Slot) → countOf p (s ∷ ss) ≡ one (p s) + countOf p ss
+count-cons : (p : Slot → Bool) (s : Slot) (ss : List Slot) → countOf p (s ∷ ss) ≡ oneIf (p s) + countOf p ss
 unfolding countOf
 count-cons p s ss = go (p s) refl
   where
-    go : (b : Bool) → p s ≡ b → elim (p s) as (λ (x : Bool). ℕ) [ true ↦ suc (countOf p ss) | false ↦ countOf p ss ] ≡ one (p s) + countOf p ss
+    go : (b : Bool) → p s ≡ b → elim (p s) as (λ (x : Bool). ℕ) [ true ↦ suc (countOf p ss) | false ↦ countOf p ss ] ≡ oneIf (p s) + countOf p ss
     go true e = rw (e) (sym (add-one (countOf p ss) ∙ refl) ∙ omega arith)
     go false e = rw (e) (sym (zero-add (countOf p ss)))
 
 module _ (p : Slot → Bool) (f : ℕ → Slot) (i s : ℕ) where
-  pub count-turn : i < s → countOf p (each f i (s - i)) ≡ one (p (f i)) + countOf p (each f (i + 1) (s - (i + 1)))
+  pub count-turn : i < s → countOf p (each f i (s - i)) ≡ oneIf (p (f i)) + countOf p (each f (i + 1) (s - (i + 1)))
   unfolding each
   count-turn h = let z : s - i ≡ suc (s - suc i) = omega arith in rw (z, add-one i) (count-cons p (f i) (each f (suc i) (s - suc i)))
 

@@ -8,7 +8,7 @@ use native.Mathlib.Nat.{add-suc, suc-add, add-zero, zero-add}
 use native.Mathlib.Omega.{arith}
 use lib.ListN.{length}
 use borrow.Author.Tests.{eq-eqb, ne-eqb}
-use Rattle.rules.specs.Answers.{inHand, paused, finished}
+use Rattle.rules.specs.Answers.{Answer, Draw}
 use Rattle.rules.specs.Calls.{cardOf}
 use Rattle.rules.specs.Memory.{Slot, Store, T, R, version}
 use Rattle.rules.specs.Next.{told, look, atEnd, finish, walk}
@@ -24,7 +24,7 @@ module _ (S : Store) (p b l : ℕ) (o : List ℕ) (S′ : Store) (more : atEnd S
   unfolding walkOn
   walk-looks seen = walk-on S p b l o more ∙ ap (λ (x : Store × Option Slot). walkOn (x .0) p b l o (x .1)) seen
 
-  walk-takes : (v : Slot) → look S p ≡ (S′, some v) → walk S p (suc b) l o ≡ told (inHand (suc l) b) S′ (version v)
+  walk-takes : (v : Slot) → look S p ≡ (S′, some v) → walk S p (suc b) l o ≡ told (Answer.drew (Draw.inHand (suc l) b)) S′ (version v)
   unfolding walkOn
   walk-takes v seen = walk-on S p b l o more ∙ ap (λ (x : Store × Option Slot). walkOn (x .0) p b l o (x .1)) seen
 
@@ -63,7 +63,7 @@ module _ (S : Store) (p : ℕ) (onDesk : p < length (S .desk .cards)) where
 
     pub walk-hit : stopAt S p b < reach S p b
         → walk S p b 0 o
-        ≡ told (inHand (suc (stopAt S p b) - cardOf S p .place) (b - (suc (stopAt S p b) - cardOf S p .place))) (took S p (stopAt S p b)) (version (here S (stopAt S p b)))
+        ≡ told (Answer.drew (Draw.inHand (suc (stopAt S p b) - cardOf S p .place) (b - (suc (stopAt S p b) - cardOf S p .place)))) (took S p (stopAt S p b)) (version (here S (stopAt S p b)))
     walk-hit found = go (stopAt S p b) refl least
       where
         least : cardOf S p .place ≤ stopAt S p b
@@ -72,17 +72,17 @@ module _ (S : Store) (p : ℕ) (onDesk : p < length (S .desk .cards)) where
         passes : hit S p (stopAt S p b) ≡ true
         passes = first-found (hit S p) (cardOf S p .place) (reach S p b - cardOf S p .place) (omega (arith, least))
 
-        go : (q : ℕ) → q ≡ stopAt S p b → cardOf S p .place ≤ q → walk S p b 0 o ≡ told (inHand (suc q - cardOf S p .place) (b - (suc q - cardOf S p .place))) (took S p q) (version (here S q))
+        go : (q : ℕ) → q ≡ stopAt S p b → cardOf S p .place ≤ q → walk S p b 0 o ≡ told (Answer.drew (Draw.inHand (suc q - cardOf S p .place) (b - (suc q - cardOf S p .place)))) (took S p q) (version (here S q))
         go q e up =
             let z : suc q - cardOf S p .place ≡ suc (q - cardOf S p .place) = omega arith in
             walk-to q (suc (b - (suc q - cardOf S p .place))) up (omega arith) (omega arith) (omega arith)
             ∙ walk-takes (passed S p q) p (b - (suc q - cardOf S p .place)) (q - cardOf S p .place) o (took S p q) (not-at-end q (omega arith)) (here S q)
             (look-hit S p onDesk q up (ap (hit S p) e ∙ passes))
-            ∙ ap (λ (n : ℕ). told (inHand n (b - (suc q - cardOf S p .place))) (took S p q) (version (here S q))) (sym z)
+            ∙ ap (λ (n : ℕ). told (Answer.drew (Draw.inHand n (b - (suc q - cardOf S p .place)))) (took S p q) (version (here S q))) (sym z)
 
     pub walk-paused : reach S p b ≤ stopAt S p b
         → reach S p b < T S + R S
-        → walk S p b 0 o ≡ told (paused b) (movedTo S p (cardOf S p .place + b) (cardOf S p .handed) (S .table) (S .shelf)) o
+        → walk S p b 0 o ≡ told (Answer.drew (Draw.paused b)) (movedTo S p (cardOf S p .place + b) (cardOf S p .handed) (S .table) (S .shelf)) o
     walk-paused unseen more =
         let z : cardOf S p .place + b - cardOf S p .place ≡ b = omega arith in
         walk-to (cardOf S p .place + b) 0 (omega arith) (omega arith) (omega arith) (omega arith)
@@ -92,7 +92,7 @@ module _ (S : Store) (p : ℕ) (onDesk : p < length (S .desk .cards)) where
     pub walk-finished : reach S p b ≤ stopAt S p b
         → reach S p b ≡ T S + R S
         → walk S p b 0 o
-        ≡ told (finished (T S + R S - cardOf S p .place) (b - (T S + R S - cardOf S p .place)) (cardOf S p .handed))
+        ≡ told (Answer.drew (Draw.finished (T S + R S - cardOf S p .place) (b - (T S + R S - cardOf S p .place)) (cardOf S p .handed)))
         (finish (movedTo S p (T S + R S) (cardOf S p .handed) (S .table) (S .shelf)) p) o
     walk-finished unseen all =
         walk-to (T S + R S) (b - (T S + R S - cardOf S p .place)) within (omega arith) (omega arith) (omega arith)

@@ -1,7 +1,7 @@
 // The three masks of the desk, by value: each move of document 000, section III-A, hands them back.
 ghost use mathlib.Core.Path.{_≡_};
 ghost use Prim.Native.Nat.{_<_};
-ghost use Rattle.rules.specs.Masks.{fresh as freshMasks, begun as begunMasks, walkEnded, ended as endedMasks, newStatus, mOf, on, scanMask};
+ghost use Rattle.rules.specs.Masks.{fresh as freshMasks, walkBegun as begunMasks, walkEnded, ended as endedMasks, newStatus, mOf, on, scanMask};
 ghost use Rattle.masks.specs.Held.{held};
 use rules::Position;
 
@@ -84,12 +84,12 @@ pub fn scan_mask(p: Position) -> u64
     requires { ⌜ p .0 < 64 ⌝ }
     ensures { λ r. ⌜ r ≡ scanMask (p .0) ⌝ }
 {
-    1u64 << p.0
+    1u64 << p.bit()
 }
 
 pub fn has_bit(x: u64, p: Position) -> bool
     requires { ⌜ p .0 < 64 ⌝ }
     ensures { λ r. ⌜ r ≡ on x (p .0) ⌝ }
 {
-    (x >> p.0) % 2 == 1
+    (x >> p.bit()) % 2 == 1
 }

@@ -23,31 +23,39 @@ fn copy(src: &[u8], dst: &mut [u8]) {
     }
 }
 
-// Next with unbounded budget on a copy of the desk.
+// Next with unbounded budget on copies of desk, table and shelf.
 fn unbounded(
     desk: [u8; 1088],
-    table: &mut [u8],
-    shelf: &mut [u8],
+    table: &[u8],
+    shelf: &[u8],
     ticket: Ticket,
     out: &mut [u8; 56],
 ) -> NextAnswer {
     let mut desk_copy = desk;
-    calls::next(&mut desk_copy, table, shelf, ticket, 4294967295, out)
+    let mut table_copy = [0u8; 512];
+    let mut shelf_copy = [0u8; 1024];
+    copy(table, &mut table_copy);
+    copy(shelf, &mut shelf_copy);
+    let t = io::count(table.len() as isize, &table_copy);
+    let s = io::count(shelf.len() as isize, &shelf_copy);
+    calls::next(
+        &mut desk_copy,
+        &mut table_copy[..t],
+        &mut shelf_copy[..s],
+        ticket,
+        4294967295,
+        out,
+    )
 }
 
-// The copies of table and shelf go into buffers of the same lengths.
 pub fn peek_and_next<'a>(
     desk: &[u8; 1088],
     table: &'a [u8],
     shelf: &'a [u8],
-    table_copy: &mut [u8],
-    shelf_copy: &mut [u8],
     ticket: Ticket,
 ) -> Compared {
     let mut out = [0u8; 56];
-    copy(table, table_copy);
-    copy(shelf, shelf_copy);
-    let answer = unbounded(*desk, table_copy, shelf_copy, ticket, &mut out);
+    let answer = unbounded(*desk, table, shelf, ticket, &mut out);
     let part = calls::peek(desk, table, shelf, ticket);
     beside(part, answer, &out)
 }

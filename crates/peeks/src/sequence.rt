@@ -14,11 +14,9 @@ fn peek_then_next(
     desk: &mut [u8; 1088],
     table: &mut [u8],
     shelf: &mut [u8],
-    table_copy: &mut [u8],
-    shelf_copy: &mut [u8],
 ) -> Compared {
     let ticket = turn::ticket(state, desk);
-    let compared = compare::peek_and_next(desk, table, shelf, table_copy, shelf_copy, ticket);
+    let compared = compare::peek_and_next(desk, table, shelf, ticket);
     turn::next(state, desk, table, shelf, ticket);
     compared
 }
@@ -29,14 +27,12 @@ fn hostile_peek_then_next(
     desk: &mut [u8; 1088],
     table: &mut [u8],
     shelf: &mut [u8],
-    table_copy: &mut [u8],
-    shelf_copy: &mut [u8],
 ) -> Compared {
     let before = *desk;
     hostile::spoil_desk(state, desk);
     hostile::spoil(state, table, 0, 512);
     hostile::spoil(state, shelf, 0, 1024);
-    let compared = peek_then_next(state, desk, table, shelf, table_copy, shelf_copy);
+    let compared = peek_then_next(state, desk, table, shelf);
     hostile::mend(desk, before, table, shelf);
     compared
 }
@@ -47,20 +43,11 @@ fn one(
     desk: &mut [u8; 1088],
     table: &mut [u8],
     shelf: &mut [u8],
-    table_copy: &mut [u8],
-    shelf_copy: &mut [u8],
     seen: Seen,
 ) -> Seen {
     match roll(state, 16) {
-        0..=4 => seen.compared(peek_then_next(state, desk, table, shelf, table_copy, shelf_copy)),
-        5 => seen.compared(hostile_peek_then_next(
-            state,
-            desk,
-            table,
-            shelf,
-            table_copy,
-            shelf_copy,
-        )),
+        0..=4 => seen.compared(peek_then_next(state, desk, table, shelf)),
+        5 => seen.compared(hostile_peek_then_next(state, desk, table, shelf)),
         _ => {
             turn::other(state, desk, table, shelf);
             seen
@@ -68,29 +55,14 @@ fn one(
     }
 }
 
-// Fifty calls, each counted; one where peek differs is told by its number.
-fn fifty(
-    number: u32,
-    state: &mut u32,
-    desk: &mut [u8; 1088],
-    table: &mut [u8],
-    shelf: &mut [u8],
-    table_copy: &mut [u8],
-    shelf_copy: &mut [u8],
-    before: Seen,
-) -> Seen {
-    let mut so_far = before;
+// The store opened and fifty calls, each counted; one where peek differs is told by its number.
+fn opened(number: u32, state: &mut u32, table: &mut [u8], shelf: &mut [u8], before: Seen) -> Seen {
+    let mut desk = [0u8; 1088];
+    calls::open(&mut desk, table, shelf, 1 + roll(state, 4));
+    let mut so_far = before.called();
     let mut call: u32 = 0;
     while call < 50 {
-        let after = one(
-            state,
-            desk,
-            table,
-            shelf,
-            table_copy,
-            shelf_copy,
-            so_far.called(),
-        );
+        let after = one(state, &mut desk, table, shelf, so_far.called());
         if after.differences != so_far.differences {
             seen::tell_difference(number, call);
         }
@@ -100,47 +72,12 @@ fn fifty(
     so_far
 }
 
-// The store opened, and its calls.
-fn opened(
-    number: u32,
-    state: &mut u32,
-    table: &mut [u8],
-    shelf: &mut [u8],
-    table_copy: &mut [u8],
-    shelf_copy: &mut [u8],
-    so_far: Seen,
-) -> Seen {
-    let mut desk = [0u8; 1088];
-    let n = 1 + roll(state, 4);
-    calls::open(&mut desk, table, shelf, n);
-    fifty(
-        number,
-        state,
-        &mut desk,
-        table,
-        shelf,
-        table_copy,
-        shelf_copy,
-        so_far.called(),
-    )
-}
-
 // Sequence `number`: T 1 to 8, R 1 to 16, N 1 to 4.
 pub fn run(number: u32, so_far: Seen) -> Seen {
     let mut state = number;
     let mut table = [0u8; 512];
     let mut shelf = [0u8; 1024];
-    let mut table_copy = [0u8; 512];
-    let mut shelf_copy = [0u8; 1024];
-    let t = 64 + roll(&mut state, 8) as usize * 64;
-    let r = 64 + roll(&mut state, 16) as usize * 64;
-    opened(
-        number,
-        &mut state,
-        &mut table[..t],
-        &mut shelf[..r],
-        &mut table_copy[..t],
-        &mut shelf_copy[..r],
-        so_far,
-    )
+    let t = io::count((64 + roll(&mut state, 8) * 64) as isize, &table);
+    let r = io::count((64 + roll(&mut state, 16) * 64) as isize, &shelf);
+    opened(number, &mut state, &mut table[..t], &mut shelf[..r], so_far)
 }

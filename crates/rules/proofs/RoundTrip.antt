@@ -6,7 +6,7 @@ use native.Mathlib.Nat.{zero-add, zero-mul, suc-mul}
 use native.Mathlib.Omega.{arith}
 use lib.ListN.{length}
 use Rattle.rules.specs.Bytes.{field, u32At, u64At}
-use Rattle.rules.specs.Memory.{Lent, each, slotAt, slotsOf, cardAt, deskOf, read, joined, slotBytes, cardBytes, deskBytes, written}
+use Rattle.rules.specs.Memory.{Lent, each, slotAt, slotsOf, cardAt, deskOf, storeOf, read, joined, slotBytes, cardBytes, deskBytes, written}
 use Rattle.rules.proofs.Bytes.{Bytes, field-all, glue, toLe-field}
 
 -- bytes of right lengths
@@ -80,6 +80,6 @@ desk-back d b h =
     ) (field-all d 1088 h)
 
 pub written-read : (l : Lent) → Right l → written (read l) ≡ l
-unfolding written read
+unfolding written storeOf
 written-read l r i =
     record { desk = desk-back (l .desk) (r .deskBytes) (r .deskLength) i; table = slots-back (l .table) (r .tableBytes) (r .tableWhole) i; shelf = slots-back (l .shelf) (r .shelfBytes) (r .shelfWhole) i }

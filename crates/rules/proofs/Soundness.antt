@@ -4,23 +4,23 @@ use mathlib.Core.Bool.{Bool, true, false, _&&_, false≢true}
 use mathlib.Core.Option.{Option, none, some}
 use mathlib.Core.List.{[], _∷_, _++_}
 use Rattle.rules.specs.Memory.{Store}
-use Rattle.rules.specs.Sound.{Field, Rules, holds, broken, deskRules, sound}
+use Rattle.rules.specs.Sound.{Field, Rules, allHold, broken, deskRules, sound}
 
-holds-broken : (rs : Rules) → holds rs ≡ true → broken rs ≡ none
-unfolding holds broken
+holds-broken : (rs : Rules) → allHold rs ≡ true → broken rs ≡ none
+unfolding allHold broken
 holds-broken [] e = refl
 holds-broken (r ∷ rs) e = go (holds-broken rs) (r .0) e
   where
-    go : (holds rs ≡ true → broken rs ≡ none) → (b : Bool) → b && holds rs ≡ true → _≡_ {A = Option Field} (elim b [ true ↦ broken rs | false ↦ some (r .1) ]) none
+    go : (allHold rs ≡ true → broken rs ≡ none) → (b : Bool) → b && allHold rs ≡ true → _≡_ {A = Option Field} (elim b [ true ↦ broken rs | false ↦ some (r .1) ]) none
     go ih true f = ih f
     go ih false f = absurd (false≢true f)
 
-broken-holds : (rs : Rules) → broken rs ≡ none → holds rs ≡ true
-unfolding holds broken
+broken-holds : (rs : Rules) → broken rs ≡ none → allHold rs ≡ true
+unfolding allHold broken
 broken-holds [] e = refl
 broken-holds (r ∷ rs) e = go (broken-holds rs) (r .0) e
   where
-    go : (broken rs ≡ none → holds rs ≡ true) → (b : Bool) → _≡_ {A = Option Field} (elim b [ true ↦ broken rs | false ↦ some (r .1) ]) none → b && holds rs ≡ true
+    go : (broken rs ≡ none → allHold rs ≡ true) → (b : Bool) → _≡_ {A = Option Field} (elim b [ true ↦ broken rs | false ↦ some (r .1) ]) none → b && allHold rs ≡ true
     go ih true f = ih f
     go ih false f = cc
 
@@ -38,7 +38,7 @@ and-assoc : (a b c : Bool) → (a && b) && c ≡ a && (b && c)
 and-assoc true b c = refl
 and-assoc false b c = refl
 
-pub holds-append : (a b : Rules) → holds (a ++ b) ≡ holds a && holds b
-unfolding holds
+pub holds-append : (a b : Rules) → allHold (a ++ b) ≡ allHold a && allHold b
+unfolding allHold
 holds-append [] b = refl
-holds-append (r ∷ rs) b = ap (λ (x : Bool). r .0 && x) (holds-append rs b) ∙ sym (and-assoc (r .0) (holds rs) (holds b))
+holds-append (r ∷ rs) b = ap (λ (x : Bool). r .0 && x) (holds-append rs b) ∙ sym (and-assoc (r .0) (allHold rs) (allHold b))

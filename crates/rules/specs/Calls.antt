@@ -6,7 +6,7 @@ use Prim.Native.Nat.{ℕ, zero, suc, _+_}
 use lib.Dec.{eqb}
 use lib.ListN.{length, getD, set, replicate}
 use Rattle.rules.specs.declared.Card.{Card}
-use Rattle.rules.specs.Masks.{Masks, bit, on, off, allOnes, fresh, begun, newStatus, mOf}
+use Rattle.rules.specs.Masks.{Masks, bit, on, off, allOnes, fresh, walkBegun, newStatus, mOf}
 use Rattle.rules.specs.Memory.{Slot, slot, free, card, idle, Desk, desk, Store, store, T, R}
 
 -- ---- what is looked for
@@ -45,7 +45,7 @@ cardOf S p = getD (S .desk .cards) p idle
 
 -- the scan of a ticket: "the lowest position is meant"; 64 where it is on no card
 abbrev pub positionOf : Store → ℕ → ℕ
-positionOf S t = first (λ i. eqb (cardOf S i .ticket .0) t) 0 64
+positionOf S ticket = first (λ i. eqb (cardOf S i .ticket .0) ticket) 0 64
 
 -- ---- "Open (N): writes a fresh desk (both active masks all ones, everything else zero but N, T, R) and zeroes table and shelf."
 
@@ -88,13 +88,20 @@ changed S i b = changedBy (unawaited S i) S i b
 
 -- ---- "Begin: takes the lowest position below N with active bit 1, clears it in both active masks, gives last ticket + 1, place 0."
 
+-- a ticket is given: the last one + 1
+abbrev pub ticketGiven : Store → Store
+ticketGiven S = store (desk (S .desk .n) (S .desk .t) (S .desk .r) (S .desk .last + 1) (S .desk .masks) (S .desk .zeros) (S .desk .cards)) (S .table) (S .shelf)
+
+-- the scan of a ticket takes position p, at place 0
+abbrev pub positionTaken : Store → ℕ → ℕ → Store
+positionTaken S ticket p =
+    store
+    (desk (S .desk .n) (S .desk .t) (S .desk .r) (S .desk .last) (walkBegun (S .desk .masks) p) (S .desk .zeros) (set (S .desk .cards) p (card ticket 0 0 0)))
+    (S .table) (S .shelf)
+
 -- position p is given to the scan of a new ticket
 unfoldable pub given : Store → ℕ → Store
-given S p =
-    store
-    (desk (S .desk .n) (S .desk .t) (S .desk .r) (S .desk .last + 1) (begun (S .desk .masks) p) (S .desk .zeros)
-    (set (S .desk .cards) p (card (S .desk .last + 1) 0 0 0)))
-    (S .table) (S .shelf)
+given S p = positionTaken (ticketGiven S) (ticketGiven S .desk .last) p
 
 -- ---- "Tally: records in the table, entries in use."
 

@@ -6,4 +6,6 @@ pub mod Answers
 pub mod Calls
 pub mod Next
 pub mod Refusals
+pub mod Passed
+pub mod Contracts
 pub mod Worked

@@ -81,8 +81,8 @@ abbrev pub fresh : Masks
 fresh = masks 0 (ones 64) (ones 64)
 
 -- "Begin: .. clears it in both active masks"
-unfoldable pub begun : Masks → ℕ → Masks
-begun m p = masks (m .stable) (cleared (m .active) p) (cleared (m .local) p)
+unfoldable pub walkBegun : Masks → ℕ → Masks
+walkBegun m p = masks (m .stable) (cleared (m .active) p) (cleared (m .local) p)
 
 -- "the table walk ends: the scan's stable bit flips and its local active bit becomes 1. Its active bit stays 0."
 unfoldable pub walkEnded : Masks → ℕ → Masks

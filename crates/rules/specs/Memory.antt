@@ -87,8 +87,12 @@ masksOf d = masks (u64At d 16) (u64At d 24) (u64At d 32)
 unfoldable pub deskOf : List ℕ → Desk
 deskOf d = desk (u32At d 0) (u32At d 4) (u32At d 8) (u32At d 12) (masksOf d) (field 24 40 d) (each (cardAt d) 0 64)
 
-unfoldable pub read : Lent → Store
-read l = store (deskOf (l .desk)) (slotsOf (l .table)) (slotsOf (l .shelf))
+-- the store that the bytes of desk, table and shelf spell
+unfoldable pub storeOf : List ℕ → List ℕ → List ℕ → Store
+storeOf d t s = store (deskOf d) (slotsOf t) (slotsOf s)
+
+abbrev pub read : Lent → Store
+read l = storeOf (l .desk) (l .table) (l .shelf)
 
 -- ---- from records to bytes
 

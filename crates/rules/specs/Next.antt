@@ -7,7 +7,7 @@ use lib.Bits.{bitXor}
 use lib.Dec.{ltb, eqb}
 use lib.ListN.{set}
 use Rattle.rules.specs.declared.Card.{Card}
-use Rattle.rules.specs.Answers.{Answer, inHand, paused, finished}
+use Rattle.rules.specs.Answers.{Answer, Draw}
 use Rattle.rules.specs.Calls.{slotIn, inUse, cardOf, positionOf}
 use Rattle.rules.specs.Masks.{Masks, off, allOnes, scanMask, walkEnded, ended, STATUS-MASK-SCAN-UPD, REMSET-MASK-UPD}
 use Rattle.rules.specs.Memory.{Slot, slot, free, card, idle, Desk, desk, Store, store, T, R, version}
@@ -59,12 +59,12 @@ tableLook false S p i =
 abbrev pub onShelf : Store → ℕ → ℕ → Bool
 onShelf S p k = inUse (slotIn (S .shelf) k) && off (slotIn (S .shelf) k .mask) p
 
-abbrev pub kept : Bool → Slot → ℕ → Slot
-kept true s m = free
-kept false s m = slot (s .number) (s .body) m
+abbrev pub freedIf : Bool → Slot → ℕ → Slot
+freedIf true s m = free
+freedIf false s m = slot (s .number) (s .body) m
 
 abbrev pub taken : Slot → ℕ → Slot
-taken s p = kept (allOnes 64 (REMSET-MASK-UPD (scanMask p) (s .mask))) s (REMSET-MASK-UPD (scanMask p) (s .mask))
+taken s p = freedIf (allOnes 64 (REMSET-MASK-UPD (scanMask p) (s .mask))) s (REMSET-MASK-UPD (scanMask p) (s .mask))
 
 -- the store after the look at entry k, and the version found there
 unfoldable pub shelfLook : Bool → Store → ℕ → ℕ → Store × Option Slot
@@ -94,15 +94,15 @@ finish S p = store (deskWith (S .desk) (ended (S .desk .masks) p) p idle) (S .ta
 -- "Place T + R and no record in hand: finished. .. This needs no budget."
 unfoldable pub walk : Store → ℕ → ℕ → ℕ → List ℕ → Told
 walk S p zero l o =
-    elim (atEnd S p) [ true ↦ told (finished l zero (cardOf S p .handed)) (finish S p) o | false ↦ told (paused l) S o ]
+    elim (atEnd S p) [ true ↦ told (Answer.drew (Draw.finished l zero (cardOf S p .handed))) (finish S p) o | false ↦ told (Answer.drew (Draw.paused l)) S o ]
 walk S p (suc b) l o =
     elim (atEnd S p) [
-      | true ↦ told (finished l (suc b) (cardOf S p .handed)) (finish S p) o
-      | false ↦ elim (look S p .1) [ none ↦ walk (look S p .0) p b (suc l) o | some v ↦ told (inHand (suc l) b) (look S p .0) (version v) ]
+      | true ↦ told (Answer.drew (Draw.finished l (suc b) (cardOf S p .handed))) (finish S p) o
+      | false ↦ elim (look S p .1) [ none ↦ walk (look S p .0) p b (suc l) o | some v ↦ told (Answer.drew (Draw.inHand (suc l) b)) (look S p .0) (version v) ]
     ]
 
 -- ---- "Peek (ticket): .. the record that next with unbounded budget would hand out. In all other cases the part is empty."
 -- No budget over T + R is spent, and an empty hand-out buffer stays empty unless a record is handed out.
 
 abbrev pub peeked : Store → ℕ → List ℕ
-peeked S t = walk S (positionOf S t) (T S + R S) 0 [] .out
+peeked S ticket = walk S (positionOf S ticket) (T S + R S) 0 [] .out

@@ -5,22 +5,30 @@ use mathlib.Core.List.{List, [], _∷_, _++_}
 use Prim.Native.Nat.{ℕ, _+_, _/_, _%_}
 use lib.Dec.{ltb, leb, eqb}
 use lib.ListN.{length, getD}
-use Rattle.rules.specs.Answers.{Answer, done, begun, counted, owing, part, refused, packed}
+use Rattle.rules.specs.Answers.{Answer, Shown, done, begun, shown, refused, packed}
 use Rattle.rules.specs.Calls.{bearing, emptySlot, shelfEntry, freePosition, positionOf, opened, inserted, unawaited, changed, given, used, owedBy}
 use Rattle.rules.specs.Memory.{Lent, Store, T, R, read, written}
 use Rattle.rules.specs.Next.{Told, told, walk, peeked}
 use Rattle.rules.specs.Sound.{sound, nInRange}
 
+-- the calls that change records
+pub data Change : Type 0 where
+  insert : (number : ℕ) (body : List ℕ) → Change
+  modify : (number : ℕ) (body : List ℕ) → Change
+  delete : (number : ℕ) → Change
+
+-- the calls that read only
+pub data Reading : Type 0 where
+  peek : (ticket : ℕ) → Reading
+  tally : Reading
+  owed : (ticket : ℕ) → Reading
+
 pub data Call : Type 0 where
   opening : (n : ℕ) → Call
-  insert : (number : ℕ) (body : List ℕ) → Call
-  modify : (number : ℕ) (body : List ℕ) → Call
-  delete : (number : ℕ) → Call
+  change : Change → Call
   begin : Call
   next : (ticket budget : ℕ) (out : List ℕ) → Call
-  peek : (ticket : ℕ) → Call
-  tally : Call
-  owed : (ticket : ℕ) → Call
+  reading : Reading → Call
 
 -- ---- line 1: lengths
 
@@ -33,16 +41,17 @@ unfoldable pub lengthsRight : ℕ → ℕ → ℕ → Bool
 lengthsRight d t s = eqb d 1088 && (slotsRight t 16384 && slotsRight s 1048576)
 
 -- "body not 52; hand-out buffer not 56"
+abbrev pub bodyRight : Change → Bool
+bodyRight (Change.insert k b) = eqb (length b) 52
+bodyRight (Change.modify k b) = eqb (length b) 52
+bodyRight (Change.delete k) = true
+
 unfoldable pub ownRight : Call → Bool
 ownRight (Call.opening n) = true
-ownRight (Call.insert k b) = eqb (length b) 52
-ownRight (Call.modify k b) = eqb (length b) 52
-ownRight (Call.delete k) = true
+ownRight (Call.change c) = bodyRight c
 ownRight Call.begin = true
 ownRight (Call.next t b o) = eqb (length o) 56
-ownRight (Call.peek t) = true
-ownRight Call.tally = true
-ownRight (Call.owed t) = true
+ownRight (Call.reading r) = true
 
 abbrev pub allRight : Lent → Call → Bool
 allRight l c = ownRight c && lengthsRight (length (l .desk)) (length (l .table)) (length (l .shelf))
@@ -70,31 +79,34 @@ noRoom S k = not (unawaited S (bearing (S .table) k)) && not (ltb (shelfEntry S)
 
 -- "ticket 0, or on no card"
 abbrev pub noScan : Store → ℕ → Bool
-noScan S t = eqb t 0 || not (ltb (positionOf S t) 64)
+noScan S ticket = eqb ticket 0 || not (ltb (positionOf S ticket) 64)
+
+-- lines 3 to 8
+abbrev pub changeRefusals : Store → Change → Refusals
+changeRefusals S (Change.insert k b) = (eqb k 0, 3) ∷ (not (kindRight b), 4) ∷ (there S k, 5) ∷ (not (ltb (emptySlot (S .table)) (T S)), 7) ∷ []
+changeRefusals S (Change.modify k b) = (eqb k 0, 3) ∷ (not (kindRight b), 4) ∷ (not (there S k), 6) ∷ (noRoom S k, 8) ∷ []
+changeRefusals S (Change.delete k) = (eqb k 0, 3) ∷ (not (there S k), 6) ∷ (noRoom S k, 8) ∷ []
+
+abbrev pub readingRefusals : Store → Reading → Refusals
+readingRefusals S (Reading.peek t) = (noScan S t, 10) ∷ []
+readingRefusals S Reading.tally = []
+readingRefusals S (Reading.owed t) = (noScan S t, 10) ∷ []
 
 -- lines 3 to 11
 unfoldable pub ownRefusals : Store → Call → Refusals
 ownRefusals S (Call.opening n) = (not (nInRange n), 3) ∷ []
-ownRefusals S (Call.insert k b) = (eqb k 0, 3) ∷ (not (kindRight b), 4) ∷ (there S k, 5) ∷ (not (ltb (emptySlot (S .table)) (T S)), 7) ∷ []
-ownRefusals S (Call.modify k b) = (eqb k 0, 3) ∷ (not (kindRight b), 4) ∷ (not (there S k), 6) ∷ (noRoom S k, 8) ∷ []
-ownRefusals S (Call.delete k) = (eqb k 0, 3) ∷ (not (there S k), 6) ∷ (noRoom S k, 8) ∷ []
+ownRefusals S (Call.change c) = changeRefusals S c
 ownRefusals S Call.begin = (not (ltb (freePosition S) (S .desk .n)), 9) ∷ (eqb (S .desk .last) 4294967295, 11) ∷ []
 ownRefusals S (Call.next t b o) = (noScan S t, 10) ∷ []
-ownRefusals S (Call.peek t) = (noScan S t, 10) ∷ []
-ownRefusals S Call.tally = []
-ownRefusals S (Call.owed t) = (noScan S t, 10) ∷ []
+ownRefusals S (Call.reading r) = readingRefusals S r
 
 -- "open gives only 1 and 3": it "looks at nothing that was there before"
 unfoldable pub looksAtDesk : Call → Bool
 looksAtDesk (Call.opening n) = false
-looksAtDesk (Call.insert k b) = true
-looksAtDesk (Call.modify k b) = true
-looksAtDesk (Call.delete k) = true
+looksAtDesk (Call.change c) = true
 looksAtDesk Call.begin = true
 looksAtDesk (Call.next t b o) = true
-looksAtDesk (Call.peek t) = true
-looksAtDesk Call.tally = true
-looksAtDesk (Call.owed t) = true
+looksAtDesk (Call.reading r) = true
 
 -- lines 1 to 11
 unfoldable pub refusals : Lent → Call → Refusals
@@ -102,47 +114,50 @@ refusals l c = (not (allRight l c), 1) ∷ (looksAtDesk c && not (sound (read l)
 
 -- ---- what a call gives that is not refused
 
+abbrev pub changesTo : Store → Change → Store
+changesTo S (Change.insert k b) = inserted S k b
+changesTo S (Change.modify k b) = changed S (bearing (S .table) k) (some b)
+changesTo S (Change.delete k) = changed S (bearing (S .table) k) none
+
+abbrev pub shows : Store → Reading → Shown
+shows S (Reading.peek t) = Shown.part (peeked S t)
+shows S Reading.tally = Shown.counted (used (S .table)) (used (S .shelf))
+shows S (Reading.owed t) = Shown.owing (owedBy S (positionOf S t))
+
 unfoldable pub effect : Store → Call → Told
 effect S (Call.opening n) = told done (opened n (T S) (R S)) []
-effect S (Call.insert k b) = told done (inserted S k b) []
-effect S (Call.modify k b) = told done (changed S (bearing (S .table) k) (some b)) []
-effect S (Call.delete k) = told done (changed S (bearing (S .table) k) none) []
+effect S (Call.change c) = told done (changesTo S c) []
 effect S Call.begin = told (begun (S .desk .last + 1)) (given S (freePosition S)) []
 effect S (Call.next t b o) = walk S (positionOf S t) b 0 o
-effect S (Call.peek t) = told (part (peeked S t)) S []
-effect S Call.tally = told (counted (used (S .table)) (used (S .shelf))) S []
-effect S (Call.owed t) = told (owing (owedBy S (positionOf S t))) S []
+effect S (Call.reading r) = told (shown (shows S r)) S []
 
 -- ---- what a refused call gives: "Refusals 1 to 11 change no byte."
 
 -- peek is refused by an empty part
+abbrev pub refusedReading : Reading → ℕ → Answer
+refusedReading (Reading.peek t) j = shown (Shown.part [])
+refusedReading Reading.tally j = refused j
+refusedReading (Reading.owed t) j = refused j
+
 unfoldable pub refusedAs : Call → ℕ → Answer
-refusedAs (Call.opening n) k = refused k
-refusedAs (Call.insert i b) k = refused k
-refusedAs (Call.modify i b) k = refused k
-refusedAs (Call.delete i) k = refused k
-refusedAs Call.begin k = refused k
-refusedAs (Call.next t b o) k = refused k
-refusedAs (Call.peek t) k = part []
-refusedAs Call.tally k = refused k
-refusedAs (Call.owed t) k = refused k
+refusedAs (Call.opening n) j = refused j
+refusedAs (Call.change c) j = refused j
+refusedAs Call.begin j = refused j
+refusedAs (Call.next t b o) j = refused j
+refusedAs (Call.reading r) j = refusedReading r j
 
 -- the hand-out buffer that a call is lent
 unfoldable pub outOf : Call → List ℕ
 outOf (Call.opening n) = []
-outOf (Call.insert k b) = []
-outOf (Call.modify k b) = []
-outOf (Call.delete k) = []
+outOf (Call.change c) = []
 outOf Call.begin = []
 outOf (Call.next t b o) = o
-outOf (Call.peek t) = []
-outOf Call.tally = []
-outOf (Call.owed t) = []
+outOf (Call.reading r) = []
 
 -- ---- the rule of a call on a sound desk: lines 3 to 11, else the effect
 
 unfoldable pub settled : Option ℕ → Store → Call → Told
-settled (some k) S c = told (refusedAs c k) S (outOf c)
+settled (some j) S c = told (refusedAs c j) S (outOf c)
 settled none S c = effect S c
 
 unfoldable pub step : Store → Call → Told
@@ -162,7 +177,7 @@ abbrev pub writtenAll : Told → Reply
 writtenAll r = reply (r .answer) (written (r .after)) (r .out)
 
 unfoldable pub replied : Option ℕ → Lent → Call → Reply
-replied (some k) l c = reply (refusedAs c k) l (outOf c)
+replied (some j) l c = reply (refusedAs c j) l (outOf c)
 replied none l c = writtenAll (effect (read l) c)
 
 unfoldable pub called : Lent → Call → Reply

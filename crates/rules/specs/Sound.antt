@@ -16,9 +16,9 @@ pub data Field : Type 0 where
 abbrev pub Rules : Type 0
 Rules = List (Bool × Field)
 
-unfoldable pub holds : Rules → Bool
-holds [] = true
-holds (r ∷ rs) = r .0 && holds rs
+unfoldable pub allHold : Rules → Bool
+allHold [] = true
+allHold (r ∷ rs) = r .0 && allHold rs
 
 -- the field of the first rule that is broken
 unfoldable pub broken : Rules → Option Field
@@ -45,10 +45,10 @@ lastWordOk w = eqb w 0
 -- "N in range; T and R equal to the buffers' slot counts; bytes 40 to 63 zero; bits from N up 0 in the stable mask and 1 in both
 -- active masks"
 unfoldable pub headRules : Desk → ℕ → ℕ → Rules
-headRules d t r =
+headRules d slots entries =
     (nInRange (d .n), atN)
-    ∷ (eqb (d .t) t, atT)
-    ∷ (eqb (d .r) r, atR)
+    ∷ (eqb (d .t) slots, atT)
+    ∷ (eqb (d .r) entries, atR)
     ∷ (allZero (d .zeros), atZeros)
     ∷ (eqb (from (d .n) (d .masks .stable)) 0, atStable)
     ∷ (eqb (from (d .n) (d .masks .active)) (from (d .n) (ones 64)), atActive)
@@ -67,10 +67,10 @@ idleRules m c i =
 -- "a busy card has ticket at most the last one given, place at most T + R, place below T exactly where the local active bit is 0,
 -- handed at most place, and last four bytes zero"
 abbrev pub busyRules : Masks → ℕ → ℕ → ℕ → Card → ℕ → Rules
-busyRules m t r last c i =
+busyRules m slots entries last c i =
     (leb (c .ticket .0) last, atTicket i)
-    ∷ (leb (c .place) (t + r), atPlace i)
-    ∷ (same (ltb (c .place) t) (off (m .local) i), atPlace i)
+    ∷ (leb (c .place) (slots + entries), atPlace i)
+    ∷ (same (ltb (c .place) slots) (off (m .local) i), atPlace i)
     ∷ (leb (c .handed) (c .place), atHanded i)
     ∷ (lastWordOk (c .rest), atLastWord i)
     ∷ []
@@ -81,16 +81,16 @@ either false a b = b
 
 -- "then card by card: ticket 0 exactly where the active bit is 1"
 unfoldable pub cardRules : Masks → ℕ → ℕ → ℕ → Card → ℕ → Rules
-cardRules m t r last c i =
+cardRules m slots entries last c i =
     (same (eqb (c .ticket .0) 0) (on (m .active) i), atTicket i)
-    ∷ either (eqb (c .ticket .0) 0) (idleRules m c i) (busyRules m t r last c i)
+    ∷ either (eqb (c .ticket .0) 0) (idleRules m c i) (busyRules m slots entries last c i)
 
 unfoldable pub cardsRules : Masks → ℕ → ℕ → ℕ → List Card → ℕ → Rules
-cardsRules m t r last [] i = []
-cardsRules m t r last (c ∷ cs) i = cardRules m t r last c i ++ cardsRules m t r last cs (suc i)
+cardsRules m slots entries last [] i = []
+cardsRules m slots entries last (c ∷ cs) i = cardRules m slots entries last c i ++ cardsRules m slots entries last cs (suc i)
 
 unfoldable pub deskRules : Store → Rules
 deskRules S = headRules (S .desk) (T S) (R S) ++ cardsRules (S .desk .masks) (T S) (R S) (S .desk .last) (S .desk .cards) 0
 
 unfoldable pub sound : Store → Bool
-sound S = holds (deskRules S)
+sound S = allHold (deskRules S)

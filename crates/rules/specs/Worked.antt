@@ -9,7 +9,7 @@ use Rattle.rules.specs.Bytes.{toLe}
 use Rattle.rules.specs.Calls.{slotIn, cardOf}
 use Rattle.rules.specs.Masks.{NOT, allOnes, on, REMSET-MASK-INS, REMSET-MASK-UPD, STATUS-MASK-UPD, STABLE-FLIP}
 use Rattle.rules.specs.Memory.{Lent, lent, Slot, slot, free, read, version}
-use Rattle.rules.specs.Refusals.{Call, Reply, called}
+use Rattle.rules.specs.Refusals.{Call, Change, Reply, called}
 
 pub data Figure : Type 0 where
   mask : ℕ → Figure
@@ -51,8 +51,8 @@ paper =
 abbrev pub Sight : Type 0
 Sight = (Reply → Figure) × Figure
 
-unfoldable pub returned : ℕ → Sight
-returned n = ((λ r. returns (packed (r .answer))), returns n)
+unfoldable pub comesBack : ℕ → Sight
+comesBack n = ((λ r. returns (packed (r .answer))), returns n)
 
 unfoldable pub handed : ℕ → List ℕ → Sight
 handed k b = ((λ r. hands (r .out)), hands (version (slot k b 0)))
@@ -108,36 +108,36 @@ next t b = Call.next t b (replicate 56 0)
 
 unfoldable pub session : List Turn
 session =
-    (Call.opening 2, returned 0 ∷ emptyShelf ∷ [])
+    (Call.opening 2, comesBack 0 ∷ emptyShelf ∷ [])
     -- Insert 11, 12, 13 (bodies A, B, C): slots 0, 1, 2, status 0
-    ∷ (Call.insert 11 A, returned 0 ∷ inSlot 0 (slot 11 A 0) ∷ [])
-    ∷ (Call.insert 12 B, returned 0 ∷ inSlot 1 (slot 12 B 0) ∷ [])
-    ∷ (Call.insert 13 C, returned 0 ∷ inSlot 2 (slot 13 C 0) ∷ [])
+    ∷ (Call.change (Change.insert 11 A), comesBack 0 ∷ inSlot 0 (slot 11 A 0) ∷ [])
+    ∷ (Call.change (Change.insert 12 B), comesBack 0 ∷ inSlot 1 (slot 12 B 0) ∷ [])
+    ∷ (Call.change (Change.insert 13 C), comesBack 0 ∷ inSlot 2 (slot 13 C 0) ∷ [])
     -- P7 begin: ticket 1, position 0
-    ∷ (Call.begin, returned (0 + 256 * 1) ∷ atPosition 0 1 ∷ [])
+    ∷ (Call.begin, comesBack (0 + 256 * 1) ∷ atPosition 0 1 ∷ [])
     -- Next, budget 1: 11 A, 1 look
-    ∷ (next 1 1, returned (0 + 256 * 1) ∷ handed 11 A ∷ [])
+    ∷ (next 1 1, comesBack (0 + 256 * 1) ∷ handed 11 A ∷ [])
     -- P8 modify 12 to B': entry 0 holds B, mask all ones but bit 0; status 1
-    ∷ (Call.modify 12 B′, returned 0 ∷ inEntry 0 (slot 12 B (allBut 0b01)) ∷ inSlot 1 (slot 12 B′ 1) ∷ [])
+    ∷ (Call.change (Change.modify 12 B′), comesBack 0 ∷ inEntry 0 (slot 12 B (allBut 0b01)) ∷ inSlot 1 (slot 12 B′ 1) ∷ [])
     -- Begin: ticket 2, position 1
-    ∷ (Call.begin, returned (0 + 256 * 2) ∷ atPosition 1 2 ∷ [])
+    ∷ (Call.begin, comesBack (0 + 256 * 2) ∷ atPosition 1 2 ∷ [])
     -- P9 modify 12 to B'': entry 1 holds B', all ones but bit 1; status 3
-    ∷ (Call.modify 12 B″, returned 0 ∷ inEntry 1 (slot 12 B′ (allBut 0b10)) ∷ inSlot 1 (slot 12 B″ 3) ∷ [])
+    ∷ (Call.change (Change.modify 12 B″), comesBack 0 ∷ inEntry 1 (slot 12 B′ (allBut 0b10)) ∷ inSlot 1 (slot 12 B″ 3) ∷ [])
     -- P10 delete 13: entry 2 holds C, bits 0 and 1 clear
-    ∷ (Call.delete 13, returned 0 ∷ inEntry 2 (slot 13 C (allBut 0b11)) ∷ inSlot 2 free ∷ [])
+    ∷ (Call.change (Change.delete 13), comesBack 0 ∷ inEntry 2 (slot 13 C (allBut 0b11)) ∷ inSlot 2 free ∷ [])
     -- Insert 14: slot 2, status 3
-    ∷ (Call.insert 14 D, returned 0 ∷ inSlot 2 (slot 14 D 3) ∷ [])
+    ∷ (Call.change (Change.insert 14 D), comesBack 0 ∷ inSlot 2 (slot 14 D 3) ∷ [])
     -- Ticket 1, budget 100: 12 B with 4 looks, entry 0 freed; 13 C with 2 looks
-    ∷ (next 1 100, returned (0 + 256 * 4) ∷ handed 12 B ∷ inEntry 0 free ∷ [])
-    ∷ (next 1 100, returned (0 + 256 * 2) ∷ handed 13 C ∷ [])
+    ∷ (next 1 100, comesBack (0 + 256 * 4) ∷ handed 12 B ∷ inEntry 0 free ∷ [])
+    ∷ (next 1 100, comesBack (0 + 256 * 2) ∷ handed 13 C ∷ [])
     -- P11 then finished with 5 looks, 3 handed, C return value 1,610,614,117
-    ∷ (next 1 100, returned (101 + 256 * (5 + 2097152 * 3)) ∷ returned 1610614117 ∷ atPosition 0 0 ∷ [])
+    ∷ (next 1 100, comesBack (101 + 256 * (5 + 2097152 * 3)) ∷ comesBack 1610614117 ∷ atPosition 0 0 ∷ [])
     -- Ticket 2 hands 11 A, 12 B', 13 C; P12 the shelf is then empty
     ∷ (next 2 100, handed 11 A ∷ [])
     ∷ (next 2 100, handed 12 B′ ∷ [])
     ∷ (next 2 100, handed 13 C ∷ emptyShelf ∷ [])
     -- A third scan takes position 0, where 1 now means stable, and hands 11 A, 12 B'', 14
-    ∷ (Call.begin, returned (0 + 256 * 3) ∷ atPosition 0 3 ∷ oneMeansStable 0 ∷ [])
+    ∷ (Call.begin, comesBack (0 + 256 * 3) ∷ atPosition 0 3 ∷ oneMeansStable 0 ∷ [])
     ∷ (next 3 100, handed 11 A ∷ [])
     ∷ (next 3 100, handed 12 B″ ∷ [])
     ∷ (next 3 100, handed 14 D ∷ [])

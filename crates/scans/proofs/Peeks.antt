@@ -5,28 +5,28 @@ use mathlib.Core.List.{List, []}
 use Prim.Native.Nat.{ℕ, _+_, _*_, _-_, _/_, _≤_, _<_}
 use native.Mathlib.Omega.{arith}
 use lib.Dec.{ltb, eqb}
-use lib.ListN.{length, take, drop}
+use lib.ListN.{length}
 use borrow.Author.Tests.{eqb-true, eqb-false, ltb-true, ltb-false, eq-eqb, ne-eqb, lt-ltb, le-ltb}
 use Rattle.rules.specs.declared.Card.{Card}
 use Rattle.rules.specs.declared.SlotNumber.{SlotNumber}
-use Rattle.rules.specs.Answers.{part}
+use Rattle.rules.specs.Answers.{Answer, Shown}
 use Rattle.rules.specs.Bytes.{field, u64At}
 use Rattle.rules.specs.Calls.{cardOf, positionOf}
-use Rattle.rules.specs.Memory.{lent, Slot, Store, T, R, slotsOf, cardAt, read, version}
+use Rattle.rules.specs.Memory.{Slot, Store, T, R, slotsOf, cardAt, storeOf, version}
 use Rattle.rules.specs.Next.{Told, told}
-use Rattle.rules.specs.Refusals.{Call, noScan, step}
+use Rattle.rules.specs.Refusals.{Call, Reading, noScan, step}
 use Rattle.rules.specs.Sound.{sound}
 use Rattle.rules.proofs.Bytes.{Bytes}
 use Rattle.laws.specs.Walks.{stopAt, hereBy}
 use Rattle.laws.proofs.Cases.{peek-zero, peek-none, peek-goes}
 use Rattle.laws.proofs.Walks.{walk-hit, walk-finished}
 use Rattle.scans.specs.declared.peek.Peeked.{Peeked}
-use Rattle.scans.specs.declared.walk.Seen.{Seen}
-use Rattle.scans.specs.declared.walk.Walked.{Walked}
+use Rattle.looks.specs.declared.walk.Seen.{Seen}
+use Rattle.looks.specs.declared.walk.Walked.{Walked}
 use Rattle.scans.specs.Peeked.{peekedBy, peekedAt, partOf}
-use Rattle.scans.specs.Walked.{stopOf, walkedOf, hitIn}
-use Rattle.scans.proofs.HandOut.{version-at}
-use Rattle.scans.proofs.Moves.{slots-there, table-there, shelf-there}
+use Rattle.looks.specs.Walked.{stopOf, walkedOf, hitIn}
+use Rattle.looks.proofs.HandOut.{version-at}
+use Rattle.looks.proofs.Moves.{slots-there, table-there, shelf-there}
 use Rattle.scans.proofs.Sought.{record-says, record-at, spent-says, end-says, same-scan, scan-fits, ends-at, on-desk, within, stop-is}
 
 -- the first place that next with unbounded budget would hand out, or the end
@@ -39,11 +39,11 @@ pub place-zero : (S : Store) (k : ℕ) → k ≡ 0 → Peeked.Nothing ≡ peeked
 unfolding peekedBy
 place-zero S k z = rw (eq-eqb k 0 z) refl
 
-module _ (d t s : List ℕ) (k : ℕ) (z : k ≡ 0 → ⊥) {p : ℕ} (ep : p ≡ positionOf (read (lent d [] [])) k) where
-  no-scan : {x : Bool} → ltb p 64 ≡ x → noScan (read (lent d t s)) k ≡ not x
+module _ (d t s : List ℕ) (k : ℕ) (z : k ≡ 0 → ⊥) {p : ℕ} (ep : p ≡ positionOf (storeOf d [] []) k) where
+  no-scan : {x : Bool} → ltb p 64 ≡ x → noScan (storeOf d t s) k ≡ not x
   no-scan e = rw (ne-eqb k 0 z, same-scan d t s k ep, e) refl
 
-  pub place-none : 64 ≤ p → Peeked.Nothing ≡ peekedAt (read (lent d t s)) k
+  pub place-none : 64 ≤ p → Peeked.Nothing ≡ peekedAt (storeOf d t s) k
   unfolding peekedBy
   place-none h = rw (no-scan (le-ltb p 64 h)) refl
 
@@ -52,13 +52,13 @@ module _ (d t s : List ℕ) (k : ℕ) (z : k ≡ 0 → ⊥) {p : ℕ} (ep : p �
     abbrev stop : ℕ
     stop = stopOf (hitIn st p (slotsOf t) (slotsOf s)) (c .place) (length t / 64 + length s / 64) (length t / 64 + length s / 64)
 
-    stops : stopFor (read (lent d t s)) k ≡ stop
+    stops : stopFor (storeOf d t s) k ≡ stop
     stops =
-        ap (λ (x : ℕ). stopAt (read (lent d t s)) x (T (read (lent d t s)) + R (read (lent d t s)))) (same-scan d t s k ep)
-        ∙ ap (λ (b : ℕ). stopAt (read (lent d t s)) p b) (ends-at d t s)
+        ap (λ (x : ℕ). stopAt (storeOf d t s) x (T (storeOf d t s) + R (storeOf d t s))) (same-scan d t s k ep)
+        ∙ ap (λ (b : ℕ). stopAt (storeOf d t s) p b) (ends-at d t s)
         ∙ stop-is d t s below ec es (length t / 64 + length s / 64)
 
-    place-by : peekedBy false (ltb stop (length t / 64 + length s / 64)) (ltb stop (length t / 64)) stop (length t / 64) ≡ peekedAt (read (lent d t s)) k
+    place-by : peekedBy false (ltb stop (length t / 64 + length s / 64)) (ltb stop (length t / 64)) stop (length t / 64) ≡ peekedAt (storeOf d t s) k
     place-by = sym (rw (no-scan (lt-ltb p 64 below), stops, ends-at d t s, slots-there d t s) refl)
 
     module _ (seen : w .seen ≡ Seen.Record) where
@@ -68,18 +68,18 @@ module _ (d t s : List ℕ) (k : ℕ) (z : k ≡ 0 → ⊥) {p : ℕ} (ep : p �
       here-is : c .place + w .looks - 1 ≡ stop
       here-is = record-at (hitIn st p (slotsOf t) (slotsOf s)) (c .place) (length t / 64 + length s / 64) (length t / 64 + length s / 64) ew seen
 
-      pub place-table : c .place + w .looks - 1 < length t / 64 → Peeked.InTable (record { 0 = c .place + w .looks - 1 }) ≡ peekedAt (read (lent d t s)) k
+      pub place-table : c .place + w .looks - 1 < length t / 64 → Peeked.InTable (record { 0 = c .place + w .looks - 1 }) ≡ peekedAt (storeOf d t s) k
       unfolding peekedBy
       place-table h = rw here-is (rw (lt-ltb _ _ found, lt-ltb stop (length t / 64) (omega (arith, here-is))) at place-by)
 
-      pub place-shelf : length t / 64 ≤ c .place + w .looks - 1 → Peeked.OnShelf (record { 0 = c .place + w .looks - 1 - length t / 64 }) ≡ peekedAt (read (lent d t s)) k
+      pub place-shelf : length t / 64 ≤ c .place + w .looks - 1 → Peeked.OnShelf (record { 0 = c .place + w .looks - 1 - length t / 64 }) ≡ peekedAt (storeOf d t s) k
       unfolding peekedBy
       place-shelf h = rw here-is (rw (lt-ltb _ _ found, le-ltb stop (length t / 64) (omega (arith, here-is))) at place-by)
 
-    pub place-spent : w .seen ≡ Seen.Spent → Peeked.Nothing ≡ peekedAt (read (lent d t s)) k
+    pub place-spent : w .seen ≡ Seen.Spent → Peeked.Nothing ≡ peekedAt (storeOf d t s) k
     place-spent seen = absurd (omega (arith, spent-says (hitIn st p (slotsOf t) (slotsOf s)) (c .place) (length t / 64 + length s / 64) (length t / 64 + length s / 64) ew seen .1))
 
-    pub place-end : w .seen ≡ Seen.End → Peeked.Nothing ≡ peekedAt (read (lent d t s)) k
+    pub place-end : w .seen ≡ Seen.End → Peeked.Nothing ≡ peekedAt (storeOf d t s) k
     unfolding peekedBy
     place-end seen =
         let none : length t / 64 + length s / 64 ≤ stop = omega (arith, end-says (hitIn st p (slotsOf t) (slotsOf s)) (c .place) (length t / 64 + length s / 64) (length t / 64 + length s / 64) ew seen .0) in
@@ -123,8 +123,8 @@ module _ (S : Store) (k : ℕ) where
     part-here false = refl
 
     part-of : (a b y : Bool) → eqb k 0 ≡ a → ltb (positionOf S k) 64 ≡ b → ltb (stopFor S k) (T S + R S) ≡ y
-        → told (part (partOf (peekedBy (a || not b) y (ltb (stopFor S k) (T S)) (stopFor S k) (T S)) (S .table) (S .shelf))) S []
-        ≡ step S (Call.peek k)
+        → told (Answer.shown (Shown.part (partOf (peekedBy (a || not b) y (ltb (stopFor S k) (T S)) (stopFor S k) (T S)) (S .table) (S .shelf)))) S []
+        ≡ step S (Call.reading (Reading.peek k))
     unfolding peekedBy partOf
     part-of true b y ea eb ey = peek-zero S k (eqb-true k 0 ea)
     part-of false false y ea eb ey = peek-none S k (eqb-false k 0 ea) (ltb-false (positionOf S k) 64 eb)
@@ -132,58 +132,49 @@ module _ (S : Store) (k : ℕ) where
         let h = ltb-true (positionOf S k) 64 eb in
         let f = fits (eqb-false k 0 ea) h in
         let g = ltb-true (stopFor S k) (T S + R S) ey in
-        ap (λ (l : List ℕ). told (part l) S []) (part-here (ltb (stopFor S k) (T S)) ∙ sym (ap (λ (r : Told). r .out) (walk-hit S (positionOf S k) (onDesk h) (T S + R S) [] f (omega arith))))
+        ap (λ (l : List ℕ). told (Answer.shown (Shown.part l)) S []) (part-here (ltb (stopFor S k) (T S)) ∙ sym (ap (λ (r : Told). r .out) (walk-hit S (positionOf S k) (onDesk h) (T S + R S) [] f (omega arith))))
         ∙ peek-goes S k (eqb-false k 0 ea) h
     part-of false true false ea eb ey =
         let h = ltb-true (positionOf S k) 64 eb in
         let f = fits (eqb-false k 0 ea) h in
         let g = ltb-false (stopFor S k) (T S + R S) ey in
-        ap (λ (l : List ℕ). told (part l) S []) (sym (ap (λ (r : Told). r .out) (walk-finished S (positionOf S k) (onDesk h) (T S + R S) [] f (omega arith) (omega arith))))
+        ap (λ (l : List ℕ). told (Answer.shown (Shown.part l)) S []) (sym (ap (λ (r : Told). r .out) (walk-finished S (positionOf S k) (onDesk h) (T S + R S) [] f (omega arith) (omega arith))))
         ∙ peek-goes S k (eqb-false k 0 ea) h
 
 -- on a sound desk the part at the place is the rule's
-pub peeks : (d t s : List ℕ) (k : ℕ) → sound (read (lent d t s)) ≡ true
-    → told (part (partOf (peekedAt (read (lent d t s)) k) (read (lent d t s) .table) (read (lent d t s) .shelf))) (read (lent d t s)) [] ≡ step (read (lent d t s)) (Call.peek k)
+pub peeks : (d t s : List ℕ) (k : ℕ) → sound (storeOf d t s) ≡ true
+    → told (Answer.shown (Shown.part (partOf (peekedAt (storeOf d t s) k) (storeOf d t s .table) (storeOf d t s .shelf)))) (storeOf d t s) [] ≡ step (storeOf d t s) (Call.reading (Reading.peek k))
 peeks d t s k ok =
-    part-of (read (lent d t s)) k
+    part-of (storeOf d t s) k
     (λ h. on-desk d t s h)
     (λ z h. within d t s h refl (scan-fits d k (same-scan d t s k refl) h t s ok z refl))
-    (eqb k 0) (ltb (positionOf (read (lent d t s)) k) 64) (ltb (stopFor (read (lent d t s)) k) (T (read (lent d t s)) + R (read (lent d t s)))) refl refl refl
+    (eqb k 0) (ltb (positionOf (storeOf d t s) k) 64) (ltb (stopFor (storeOf d t s) k) (T (storeOf d t s) + R (storeOf d t s))) refl refl refl
 
 -- ---- the ways out, from the place
 
--- 56 bytes of a buffer
-slice : (at : ℕ) (l : List ℕ) → take (at + 56 - at) (drop at l) ≡ field 56 at l
-unfolding field
-slice at l =
-    let e : at + 56 - at ≡ 56 = omega arith in
-    rw e refl
-
-module _ (d t s : List ℕ) (k : ℕ) {v : Peeked} (ev : v ≡ peekedAt (read (lent d t s)) k) where
+module _ (d t s : List ℕ) (k : ℕ) {v : Peeked} (ev : v ≡ peekedAt (storeOf d t s) k) where
   pub below-table : {i : SlotNumber} → v ≡ Peeked.InTable i → i .0 < length t / 64
-  below-table e = rw (slots-there d t s) at (table-says (read (lent d t s)) k (sym ev ∙ e))
+  below-table e = rw (slots-there d t s) at (table-says (storeOf d t s) k (sym ev ∙ e))
 
   pub below-shelf : {j : SlotNumber} → v ≡ Peeked.OnShelf j → j .0 < length s / 64
-  below-shelf e = omega (arith, shelf-says (read (lent d t s)) k (sym ev ∙ e), ends-at d t s, slots-there d t s)
+  below-shelf e = omega (arith, shelf-says (storeOf d t s) k (sym ev ∙ e), ends-at d t s, slots-there d t s)
 
-  module _ (ok : sound (read (lent d t s)) ≡ true) where
-    shows : (x : Peeked) → v ≡ x → told (part (partOf x (slotsOf t) (slotsOf s))) (read (lent d t s)) [] ≡ step (read (lent d t s)) (Call.peek k)
+  module _ (ok : sound (storeOf d t s) ≡ true) where
+    shows : (x : Peeked) → v ≡ x → told (Answer.shown (Shown.part (partOf x (slotsOf t) (slotsOf s)))) (storeOf d t s) [] ≡ step (storeOf d t s) (Call.reading (Reading.peek k))
     shows x e =
-        ap (λ (y : Peeked). told (part (partOf y (slotsOf t) (slotsOf s))) (read (lent d t s)) []) (sym e ∙ ev)
-        ∙ ap (λ (tb : List Slot). told (part (partOf (peekedAt (read (lent d t s)) k) tb (slotsOf s))) (read (lent d t s)) []) (sym (table-there d t s))
-        ∙ ap (λ (sf : List Slot). told (part (partOf (peekedAt (read (lent d t s)) k) (read (lent d t s) .table) sf)) (read (lent d t s)) []) (sym (shelf-there d t s))
+        ap (λ (y : Peeked). told (Answer.shown (Shown.part (partOf y (slotsOf t) (slotsOf s)))) (storeOf d t s) []) (sym e ∙ ev)
+        ∙ ap (λ (tb : List Slot). told (Answer.shown (Shown.part (partOf (peekedAt (storeOf d t s) k) tb (slotsOf s)))) (storeOf d t s) []) (sym (table-there d t s))
+        ∙ ap (λ (sf : List Slot). told (Answer.shown (Shown.part (partOf (peekedAt (storeOf d t s) k) (storeOf d t s .table) sf))) (storeOf d t s) []) (sym (shelf-there d t s))
         ∙ peeks d t s k ok
 
-    pub peeks-table : {i : SlotNumber} → v ≡ Peeked.InTable i → Bytes t
-        → told (part (take (i .0 * 64 + 56 - i .0 * 64) (drop (i .0 * 64) t))) (read (lent d t s)) [] ≡ step (read (lent d t s)) (Call.peek k)
+    pub peeks-table : {i : SlotNumber} → v ≡ Peeked.InTable i → Bytes t → {l : List ℕ} → l ≡ field 56 (i .0 * 64) t → told (Answer.shown (Shown.part l)) (storeOf d t s) [] ≡ step (storeOf d t s) (Call.reading (Reading.peek k))
     unfolding partOf
-    peeks-table {i} e bytes = ap (λ (l : List ℕ). told (part l) (read (lent d t s)) []) (slice (i .0 * 64) t ∙ version-at t (i .0) (below-table e) bytes) ∙ shows (Peeked.InTable i) e
+    peeks-table {i} e bytes el = ap (λ (l : List ℕ). told (Answer.shown (Shown.part l)) (storeOf d t s) []) (el ∙ version-at t (i .0) (below-table e) bytes) ∙ shows (Peeked.InTable i) e
 
-    pub peeks-shelf : {j : SlotNumber} → v ≡ Peeked.OnShelf j → Bytes s
-        → told (part (take (j .0 * 64 + 56 - j .0 * 64) (drop (j .0 * 64) s))) (read (lent d t s)) [] ≡ step (read (lent d t s)) (Call.peek k)
+    pub peeks-shelf : {j : SlotNumber} → v ≡ Peeked.OnShelf j → Bytes s → {l : List ℕ} → l ≡ field 56 (j .0 * 64) s → told (Answer.shown (Shown.part l)) (storeOf d t s) [] ≡ step (storeOf d t s) (Call.reading (Reading.peek k))
     unfolding partOf
-    peeks-shelf {j} e bytes = ap (λ (l : List ℕ). told (part l) (read (lent d t s)) []) (slice (j .0 * 64) s ∙ version-at s (j .0) (below-shelf e) bytes) ∙ shows (Peeked.OnShelf j) e
+    peeks-shelf {j} e bytes el = ap (λ (l : List ℕ). told (Answer.shown (Shown.part l)) (storeOf d t s) []) (el ∙ version-at s (j .0) (below-shelf e) bytes) ∙ shows (Peeked.OnShelf j) e
 
-    pub peeks-nothing : v ≡ Peeked.Nothing → told (part []) (read (lent d t s)) [] ≡ step (read (lent d t s)) (Call.peek k)
+    pub peeks-nothing : v ≡ Peeked.Nothing → told (Answer.shown (Shown.part [])) (storeOf d t s) [] ≡ step (storeOf d t s) (Call.reading (Reading.peek k))
     unfolding partOf
     peeks-nothing e = shows Peeked.Nothing e

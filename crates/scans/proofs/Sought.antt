@@ -10,7 +10,7 @@ use borrow.Author.Tests.{eqb-true, ltb-true, ltb-false}
 use Rattle.rules.specs.declared.Card.{Card}
 use Rattle.rules.specs.Bytes.{u64At}
 use Rattle.rules.specs.Calls.{slotIn, cardOf, positionOf}
-use Rattle.rules.specs.Memory.{lent, T, R, slotsOf, cardAt, deskOf, read}
+use Rattle.rules.specs.Memory.{T, R, slotsOf, cardAt, deskOf, storeOf}
 use Rattle.rules.specs.Sound.{sound}
 use Rattle.rules.proofs.Each.{length-each}
 use Rattle.laws.specs.Walks.{hitBy, hit, reach, stopAt}
@@ -18,10 +18,10 @@ use Rattle.rules.proofs.First.{first-least, first-found, first-same}
 use Rattle.laws.proofs.Search.{waiting-shelf}
 use Rattle.laws.proofs.Slots.{count}
 use Rattle.desk.proofs.Says.{place-most, handed-most}
-use Rattle.scans.specs.declared.walk.Seen.{Seen}
-use Rattle.scans.specs.declared.walk.Walked.{Walked}
-use Rattle.scans.specs.Walked.{stopOf, walkedBy, walkedOf, hitInBy, hitIn}
-use Rattle.scans.proofs.Moves.{card-there}
+use Rattle.looks.specs.declared.walk.Seen.{Seen}
+use Rattle.looks.specs.declared.walk.Walked.{Walked}
+use Rattle.looks.specs.Walked.{stopOf, walkedBy, walkedOf, hitInBy, hitIn}
+use Rattle.looks.proofs.Moves.{card-there}
 
 -- ---- what each answer of a walk says
 
@@ -85,20 +85,20 @@ module _ (h : ℕ → Bool) (from b end : ℕ) {w : Walked} (ew : w ≡ walkedOf
 
 -- ---- the scan of a ticket, and its card
 
-pub same-scan : (d t s : List ℕ) (k : ℕ) {p : ℕ} → p ≡ positionOf (read (lent d [] [])) k → positionOf (read (lent d t s)) k ≡ p
-unfolding read
+pub same-scan : (d t s : List ℕ) (k : ℕ) {p : ℕ} → p ≡ positionOf (storeOf d [] []) k → positionOf (storeOf d t s) k ≡ p
+unfolding storeOf
 same-scan d t s k ep = sym ep
 
-module _ (d : List ℕ) (k : ℕ) {p : ℕ} (ep : p ≡ positionOf (read (lent d [] [])) k) (below : p < 64) where
+module _ (d : List ℕ) (k : ℕ) {p : ℕ} (ep : p ≡ positionOf (storeOf d [] []) k) (below : p < 64) where
   scan-card : cardAt d p .ticket .0 ≡ k
   scan-card =
-      let found : eqb (cardOf (read (lent d [] [])) p .ticket .0) k ≡ true = rw (← ep) at (first-found (λ i. eqb (cardOf (read (lent d [] [])) i .ticket .0) k) 0 64 (rw (← ep) (omega arith))) in
+      let found : eqb (cardOf (storeOf d [] []) p .ticket .0) k ≡ true = rw (← ep) at (first-found (λ i. eqb (cardOf (storeOf d [] []) i .ticket .0) k) 0 64 (rw (← ep) (omega arith))) in
       ap (λ (v : Card). v .ticket .0) (sym (card-there d [] [] p below)) ∙ eqb-true _ _ found
 
   scan-busy : (k ≡ 0 → ⊥) → cardAt d p .ticket .0 ≡ 0 → ⊥
   scan-busy z e = z (sym scan-card ∙ e)
 
-  module _ (t s : List ℕ) (ok : sound (read (lent d t s)) ≡ true) (z : k ≡ 0 → ⊥) {c : Card} (ec : c ≡ cardAt d p) where
+  module _ (t s : List ℕ) (ok : sound (storeOf d t s) ≡ true) (z : k ≡ 0 → ⊥) {c : Card} (ec : c ≡ cardAt d p) where
     pub scan-fits : c .place ≤ length t / 64 + length s / 64
     scan-fits = rw ec (place-most d t s ok p below (scan-busy z))
 
@@ -107,35 +107,35 @@ module _ (d : List ℕ) (k : ℕ) {p : ℕ} (ep : p ≡ positionOf (read (lent d
 
 -- ---- the walk
 
-hits-same : (d t s : List ℕ) {st : ℕ} → st ≡ u64At d 16 → (p j : ℕ) → hit (read (lent d t s)) p j ≡ hitIn st p (slotsOf t) (slotsOf s) j
-unfolding read deskOf hitBy hitInBy
+hits-same : (d t s : List ℕ) {st : ℕ} → st ≡ u64At d 16 → (p j : ℕ) → hit (storeOf d t s) p j ≡ hitIn st p (slotsOf t) (slotsOf s) j
+unfolding storeOf deskOf hitBy hitInBy
 hits-same d t s es p j = rw es (go (ltb j (length (slotsOf t))))
   where
-    go : (x : Bool) → hitBy x (read (lent d t s)) p j ≡ hitInBy x (u64At d 16) p (slotsOf t) (slotsOf s) j
+    go : (x : Bool) → hitBy x (storeOf d t s) p j ≡ hitInBy x (u64At d 16) p (slotsOf t) (slotsOf s) j
     go true = refl
     go false = sym (waiting-shelf p (slotIn (slotsOf s) (j - length (slotsOf t))))
 
 module _ (d t s : List ℕ) where
-  pub ends-at : T (read (lent d t s)) + R (read (lent d t s)) ≡ length t / 64 + length s / 64
-  unfolding read
+  pub ends-at : T (storeOf d t s) + R (storeOf d t s) ≡ length t / 64 + length s / 64
+  unfolding storeOf
   ends-at = rw (count t, count s) refl
 
   module _ {p : ℕ} (below : p < 64) where
-    pub on-desk : p < length (read (lent d t s) .desk .cards)
-    unfolding read deskOf
+    pub on-desk : p < length (storeOf d t s .desk .cards)
+    unfolding storeOf deskOf
     on-desk = rw (length-each (cardAt d) 0 64) below
 
     module _ {c : Card} (ec : c ≡ cardAt d p) where
-      pub card-is : cardOf (read (lent d t s)) p ≡ c
+      pub card-is : cardOf (storeOf d t s) p ≡ c
       card-is = card-there d t s p below ∙ sym ec
 
-      pub within : c .place ≤ length t / 64 + length s / 64 → cardOf (read (lent d t s)) p .place ≤ T (read (lent d t s)) + R (read (lent d t s))
+      pub within : c .place ≤ length t / 64 + length s / 64 → cardOf (storeOf d t s) p .place ≤ T (storeOf d t s) + R (storeOf d t s)
       within fits = rw (card-is, ends-at) fits
 
-      pub reach-is : (b : ℕ) → reach (read (lent d t s)) p b ≡ min (c .place + b) (length t / 64 + length s / 64)
+      pub reach-is : (b : ℕ) → reach (storeOf d t s) p b ≡ min (c .place + b) (length t / 64 + length s / 64)
       reach-is b = rw (card-is, ends-at) refl
 
-      pub stop-is : {st : ℕ} → st ≡ u64At d 16 → (b : ℕ) → stopAt (read (lent d t s)) p b ≡ stopOf (hitIn st p (slotsOf t) (slotsOf s)) (c .place) b (length t / 64 + length s / 64)
+      pub stop-is : {st : ℕ} → st ≡ u64At d 16 → (b : ℕ) → stopAt (storeOf d t s) p b ≡ stopOf (hitIn st p (slotsOf t) (slotsOf s)) (c .place) b (length t / 64 + length s / 64)
       stop-is {st} es b =
           rw (card-is, ends-at)
-          (first-same (hit (read (lent d t s)) p) (hitIn st p (slotsOf t) (slotsOf s)) (c .place) (min (c .place + b) (length t / 64 + length s / 64) - c .place) (λ j lo hi. hits-same d t s es p j))
+          (first-same (hit (storeOf d t s) p) (hitIn st p (slotsOf t) (slotsOf s)) (c .place) (min (c .place + b) (length t / 64 + length s / 64) - c .place) (λ j lo hi. hits-same d t s es p j))

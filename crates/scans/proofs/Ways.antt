@@ -7,13 +7,13 @@ use native.Mathlib.Omega.{arith}
 use lib.Bits.{bitAnd, and-le-l}
 use lib.Dec.{eqb}
 use lib.ListN.{length}
-use Rattle.rules.specs.Answers.{begun as begunAnswer, owing, refused}
+use Rattle.rules.specs.Answers.{Answer, Shown, begun, refused}
 use Rattle.rules.specs.Bytes.{u32At, u64At}
 use Rattle.rules.specs.Calls.{inUse, freePosition, positionOf, given, count as countOf, owedBy}
-use Rattle.rules.specs.Masks.{Masks, bit, off, NOT, scanMask, cleared, begun}
-use Rattle.rules.specs.Memory.{lent, Slot, card, slotsOf, masksOf, deskOf, read, masksBytes, cardBytes}
+use Rattle.rules.specs.Masks.{Masks, bit, off, NOT, scanMask, cleared, walkBegun}
+use Rattle.rules.specs.Memory.{Slot, card, slotsOf, masksOf, deskOf, storeOf, masksBytes, cardBytes}
 use Rattle.rules.specs.Next.{told}
-use Rattle.rules.specs.Refusals.{Call, step}
+use Rattle.rules.specs.Refusals.{Call, Reading, step}
 use Rattle.rules.proofs.Bytes.{Bytes, u32-small, u64-small}
 use Rattle.layout.specs.Puts.{put, put32}
 use Rattle.laws.specs.Search.{waiting}
@@ -24,58 +24,59 @@ use Rattle.scans.proofs.Sought.{same-scan}
 
 -- ---- begin
 
-module _ (d : List ℕ) {p n : ℕ} (ep : p ≡ freePosition (read (lent d [] []))) (en : n ≡ u32At d 0) (t s : List ℕ) where
-  same-position : freePosition (read (lent d t s)) ≡ p
-  unfolding read
+-- a ticket that is not the last of all
+pub most : (x : ℕ) → x < 4294967296 → (x ≡ 4294967295 → ⊥) → x < 4294967295
+most x h e = omega arith
+
+module _ (d : List ℕ) {p n : ℕ} (ep : p ≡ freePosition (storeOf d [] [])) (en : n ≡ u32At d 0) (t s : List ℕ) where
+  same-position : freePosition (storeOf d t s) ≡ p
+  unfolding storeOf
   same-position = sym ep
 
-  same-n : read (lent d t s) .desk .n ≡ n
-  unfolding read deskOf
+  same-n : storeOf d t s .desk .n ≡ n
+  unfolding storeOf deskOf
   same-n = sym en
 
-  same-last : read (lent d t s) .desk .last ≡ u32At d 12
-  unfolding read deskOf
+  same-last : storeOf d t s .desk .last ≡ u32At d 12
+  unfolding storeOf deskOf
   same-last = refl
 
-  pub begins-full : n ≤ p → told (refused 9) (read (lent d t s)) [] ≡ step (read (lent d t s)) Call.begin
-  begins-full h = begin-full (read (lent d t s)) (rw (same-position, same-n) h)
+  pub begins-full : n ≤ p → told (refused 9) (storeOf d t s) [] ≡ step (storeOf d t s) Call.begin
+  begins-full h = begin-full (storeOf d t s) (rw (same-position, same-n) h)
 
   module _ (h : p < n) {g : ℕ} (eg : g ≡ u32At d 12) where
-    below : freePosition (read (lent d t s)) < read (lent d t s) .desk .n
+    below : freePosition (storeOf d t s) < storeOf d t s .desk .n
     below = rw (same-position, same-n) h
 
-    pub begins-last : g ≡ 4294967295 → told (refused 11) (read (lent d t s)) [] ≡ step (read (lent d t s)) Call.begin
-    begins-last e = begin-last (read (lent d t s)) below (same-last ∙ sym eg ∙ e)
+    pub begins-last : g ≡ 4294967295 → told (refused 11) (storeOf d t s) [] ≡ step (storeOf d t s) Call.begin
+    begins-last e = begin-last (storeOf d t s) below (same-last ∙ sym eg ∙ e)
 
-    module _ (e : g ≡ 4294967295 → ⊥) (nd : length d ≡ 1088) (bd : Bytes d) (hn : n ≤ 64) {m m′ : Masks} (em : m ≡ masksOf d) (eb : m′ ≡ begun m p) where
-      begun-put : deskOf (put (put (put32 d 12 (g + 1)) 16 (masksBytes m′)) (64 + p * 16) (cardBytes (card (g + 1) 0 0 0))) ≡ given (read (lent d t s)) p .desk
-      unfolding given read deskOf begun cleared
+    module _ (e : g ≡ 4294967295 → ⊥) (nd : length d ≡ 1088) (bd : Bytes d) (hn : n ≤ 64) {m : Masks} (em : m ≡ masksOf d) where
+      begun-put : deskOf (put (put (put32 d 12 (g + 1)) 16 (masksBytes (walkBegun m p))) (64 + p * 16) (cardBytes (card (g + 1) 0 0 0))) ≡ given (storeOf d t s) p .desk
+      unfolding given storeOf deskOf walkBegun cleared
       begun-put =
-          let sg : g + 1 < 4294967296 = more g (omega (arith, eg, u32-small d 12 bd (omega arith))) e in
-          rw (eb, em)
-          (begin-put d (g + 1) (begun (masksOf d) p) p (card (g + 1) 0 0 0) nd sg
+          let sg : g + 1 < 4294967296 = omega (arith, most g (omega (arith, eg, u32-small d 12 bd (omega arith))) e) in
+          rw em
+          (begin-put d (g + 1) (walkBegun (masksOf d) p) p (card (g + 1) 0 0 0) nd sg
           (u64-small d 16 bd (omega arith), omega (arith, and-le-l (u64At d 24) (NOT 64 (scanMask p)), u64-small d 24 bd (omega arith)), omega (arith, and-le-l (u64At d 32) (NOT 64 (scanMask p)), u64-small d 32 bd (omega arith)))
           (sg, omega arith, omega arith, omega arith) (omega arith)
           ∙ rw eg refl)
-        where
-          more : (x : ℕ) → x < 4294967296 → (x ≡ 4294967295 → ⊥) → x + 1 < 4294967296
-          more x h e = omega arith
 
-      pub begins : {d₁ d₂ d₃ : List ℕ} → d₁ ≡ put32 d 12 (g + 1) → d₂ ≡ put d₁ 16 (masksBytes m′) → d₃ ≡ put d₂ (64 + p * 16) (cardBytes (card (g + 1) 0 0 0))
-          → told (begunAnswer (g + 1)) (read (lent d₃ t s)) [] ≡ step (read (lent d t s)) Call.begin
-      unfolding read given deskOf u32At
-      begins {d₁} {d₂} {d₃} e₁ e₂ e₃ =
-          rw (e₃, e₂, e₁, begun-put)
-          (rw (eg) (rw (same-position, same-last) at (begin-done (read (lent d t s)) below (λ z. e (eg ∙ sym same-last ∙ z)))))
+      pub begins : {d₁ d₂ : List ℕ} {x : ℕ} → x ≡ g + 1 → d₁ ≡ put32 d 12 (g + 1) → d₂ ≡ put (put d₁ 16 (masksBytes (walkBegun m p))) (64 + p * 16) (cardBytes (card x 0 0 0))
+          → told (begun x) (storeOf d₂ t s) [] ≡ step (storeOf d t s) Call.begin
+      unfolding storeOf given deskOf u32At
+      begins {d₁} {d₂} {x} ex e₁ e₂ =
+          rw (e₂, e₁, ex, begun-put)
+          (rw (eg) (rw (same-position, same-last) at (begin-done (storeOf d t s) below (λ z. e (eg ∙ sym same-last ∙ z)))))
 
 -- ---- owed
 
-module _ (d t s : List ℕ) (k : ℕ) (z : k ≡ 0 → ⊥) {p : ℕ} (ep : p ≡ positionOf (read (lent d [] [])) k) where
-  pub owes-none : 64 ≤ p → told (refused 10) (read (lent d t s)) [] ≡ step (read (lent d t s)) (Call.owed k)
-  owes-none h = owed-none (read (lent d t s)) k z (rw (same-scan d t s k ep) h)
+module _ (d t s : List ℕ) (k : ℕ) (z : k ≡ 0 → ⊥) {p : ℕ} (ep : p ≡ positionOf (storeOf d [] []) k) where
+  pub owes-none : 64 ≤ p → told (refused 10) (storeOf d t s) [] ≡ step (storeOf d t s) (Call.reading (Reading.owed k))
+  owes-none h = owed-none (storeOf d t s) k z (rw (same-scan d t s k ep) h)
 
-  owed-count : {st : ℕ} → st ≡ u64At d 16 → countOf (waiting st p) (slotsOf t) + countOf (waiting 0 p) (slotsOf s) ≡ owedBy (read (lent d t s)) p
-  unfolding read deskOf
+  owed-count : {st : ℕ} → st ≡ u64At d 16 → countOf (waiting st p) (slotsOf t) + countOf (waiting 0 p) (slotsOf s) ≡ owedBy (storeOf d t s) p
+  unfolding storeOf deskOf
   owed-count {st} e =
       rw (
         e,
@@ -84,5 +85,5 @@ module _ (d t s : List ℕ) (k : ℕ) (z : k ≡ 0 → ⊥) {p : ℕ} (ep : p �
       ) refl
 
   pub owes : p < 64 → {st a b : ℕ} → st ≡ u64At d 16 → a ≡ countOf (waiting st p) (slotsOf t) → b ≡ countOf (waiting 0 p) (slotsOf s)
-      → told (owing (a + b)) (read (lent d t s)) [] ≡ step (read (lent d t s)) (Call.owed k)
-  owes h e ea eb = rw (ea, eb, owed-count e, ← (same-scan d t s k ep)) (owed-goes (read (lent d t s)) k z (rw (same-scan d t s k ep) h))
+      → told (Answer.shown (Shown.owing (a + b))) (storeOf d t s) [] ≡ step (storeOf d t s) (Call.reading (Reading.owed k))
+  owes h e ea eb = rw (ea, eb, owed-count e, ← (same-scan d t s k ep)) (owed-goes (storeOf d t s) k z (rw (same-scan d t s k ep) h))

@@ -1,25 +1,26 @@
-// Document 01's own session and its edges, call by call; what is written is compared with the document's figures.
-mod bodies;
-mod edges;
-mod own;
+// Document 01's own session and its edges, call by call, as standard input has them; what is written is compared with the
+// document's figures.
 mod show;
+mod step;
+mod text;
 mod turn;
 
-fn own_session() {
-    let mut desk = [255u8; 1088];
-    let mut table = [170u8; 256];
-    let mut shelf = [85u8; 512];
-    own::before_the_end(&mut desk, &mut table, &mut shelf);
-    show::words(b"C return value ");
-    io::print_decimal(1, own::returned(desk, table, shelf));
-    show::words(b"\n");
-    own::from_the_end(&mut desk, &mut table, &mut shelf);
+// One line after another, on buffers that are all there from the first.
+fn play(script: &[u8]) {
+    let mut desk = [0u8; 1088];
+    let mut table = [0u8; 256];
+    let mut shelf = [0u8; 512];
+    let mut lent = step::lengths(b"");
+    let mut at: usize = 0;
+    while at < script.len() {
+        let end = text::line_end(script, at);
+        lent = step::step(&script[at..end], &mut desk, &mut table, &mut shelf, lent);
+        at = end + 1;
+    }
 }
 
 fn main() {
-    own_session();
-    edges::empty_table();
-    edges::no_budget();
-    edges::full_shelf();
-    edges::refusals();
+    let mut script = io::buffer();
+    let n = io::read_full(0, &mut script);
+    play(&script[..n]);
 }

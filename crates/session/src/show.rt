@@ -31,6 +31,13 @@ pub fn body(s: &[u8], at: usize)
     words(b")");
 }
 
+// A body that is given whole.
+pub fn given(s: &[u8]) {
+    if s.len() == 52 {
+        body(s, 0);
+    }
+}
+
 // The 56 bytes of a version: number and body.
 pub fn version(s: &[u8], at: usize)
     requires { ⌜ at + 56 ≤ length (now s) ⌝ }
@@ -96,10 +103,12 @@ fn masks(desk: &[u8; 1088]) {
     words(b"\n");
 }
 
-// Table, shelf and desk as they stand.
-pub fn memory(desk: &[u8; 1088], table: &[u8], shelf: &[u8]) {
-    in_use(b"    slot ", b", status ", table);
-    in_use(b"    entry ", b", mask ", shelf);
+// The first so many bytes of table and shelf, and the desk, as they stand.
+pub fn memory(desk: &[u8; 1088], table: &[u8], shelf: &[u8], in_table: u32, in_shelf: u32) {
+    let t = io::count(in_table as isize, table);
+    let s = io::count(in_shelf as isize, shelf);
+    in_use(b"    slot ", b", status ", &table[..t]);
+    in_use(b"    entry ", b", mask ", &shelf[..s]);
     masks(desk);
     cards(desk);
 }

@@ -1,5 +1,6 @@
 // Each call, made and told in one line: the call, the answer's number, its values.
 use crate::show;
+use crate::text;
 use inarumpit::calls;
 use rules::BeginAnswer;
 use rules::ChangeAnswer;
@@ -9,7 +10,7 @@ use rules::RecordNumber;
 use rules::TallyAnswer;
 use rules::Ticket;
 
-pub fn changed(a: ChangeAnswer) {
+fn changed(a: ChangeAnswer) {
     match a {
         ChangeAnswer::Done => show::words(b": 0\n"),
         ChangeAnswer::Refused(k) => refused(k),
@@ -21,29 +22,41 @@ fn refused(k: u8) {
     show::words(b"\n");
 }
 
-pub fn open(desk: &mut [u8], table: &mut [u8], shelf: &mut [u8], n: u32) {
+fn open(desk: &mut [u8], table: &mut [u8], shelf: &mut [u8], n: u32) {
     show::named(b"open ", n);
     changed(calls::open(desk, table, shelf, n));
 }
 
-pub fn insert(desk: &[u8], table: &mut [u8], shelf: &[u8], k: u32, body: &[u8; 52]) {
+// A body: start day, kind, and a letter in each byte of the host's.
+fn body_of(line: &[u8]) -> [u8; 52] {
+    let mut b = [text::byte(line, 4); 52];
+    let day = text::word(line, 2);
+    b[0] = (day % 256) as u8;
+    b[1] = (day / 256 % 256) as u8;
+    b[2] = (day / 65536 % 256) as u8;
+    b[3] = (day / 16777216) as u8;
+    b[4] = text::byte(line, 3);
+    b
+}
+
+fn insert(desk: &[u8], table: &mut [u8], shelf: &[u8], k: u32, body: &[u8]) {
     show::named(b"insert ", k);
-    show::body(body, 0);
+    show::given(body);
     changed(calls::insert(desk, table, shelf, RecordNumber(k), body));
 }
 
-pub fn modify(desk: &[u8], table: &mut [u8], shelf: &mut [u8], k: u32, body: &[u8; 52]) {
+fn modify(desk: &[u8], table: &mut [u8], shelf: &mut [u8], k: u32, body: &[u8]) {
     show::named(b"modify ", k);
-    show::body(body, 0);
+    show::given(body);
     changed(calls::modify(desk, table, shelf, RecordNumber(k), body));
 }
 
-pub fn delete(desk: &[u8], table: &mut [u8], shelf: &mut [u8], k: u32) {
+fn delete(desk: &[u8], table: &mut [u8], shelf: &mut [u8], k: u32) {
     show::named(b"delete ", k);
     changed(calls::delete(desk, table, shelf, RecordNumber(k)));
 }
 
-pub fn begin(desk: &mut [u8], table: &[u8], shelf: &[u8]) {
+fn begin(desk: &mut [u8], table: &[u8], shelf: &[u8]) {
     show::words(b"begin");
     match calls::begin(desk, table, shelf) {
         BeginAnswer::Begun(t) => {
@@ -54,7 +67,7 @@ pub fn begin(desk: &mut [u8], table: &[u8], shelf: &[u8]) {
     }
 }
 
-pub fn told(a: NextAnswer, out: &[u8; 56]) {
+fn told(a: NextAnswer, out: &[u8; 56]) {
     match a {
         NextAnswer::InHand { looks, left } => {
             show::named(b": 0, looks ", looks);
@@ -81,15 +94,17 @@ pub fn told(a: NextAnswer, out: &[u8; 56]) {
     }
 }
 
-pub fn next(desk: &mut [u8], table: &mut [u8], shelf: &mut [u8], t: u32, budget: u32) {
+// So many bytes of the hand-out buffer are lent.
+fn next(desk: &mut [u8], table: &mut [u8], shelf: &mut [u8], t: u32, budget: u32, room: u32) {
     show::named(b"next ", t);
     show::named(b", budget ", budget);
     let mut out = [0u8; 56];
-    let a = calls::next(desk, table, shelf, Ticket(t), budget, &mut out);
+    let n = io::count(room as isize, &out);
+    let a = calls::next(desk, table, shelf, Ticket(t), budget, &mut out[..n]);
     told(a, &out);
 }
 
-pub fn tally(desk: &[u8], table: &[u8], shelf: &[u8]) {
+fn tally(desk: &[u8], table: &[u8], shelf: &[u8]) {
     show::words(b"tally");
     match calls::tally(desk, table, shelf) {
         TallyAnswer::Counted { records, entries } => {
@@ -101,7 +116,7 @@ pub fn tally(desk: &[u8], table: &[u8], shelf: &[u8]) {
     }
 }
 
-pub fn owed(desk: &[u8], table: &[u8], shelf: &[u8], t: u32) {
+fn owed(desk: &[u8], table: &[u8], shelf: &[u8], t: u32) {
     show::named(b"owed ", t);
     match calls::owed(desk, table, shelf, Ticket(t)) {
         OwedAnswer::Owing(n) => {
@@ -112,7 +127,7 @@ pub fn owed(desk: &[u8], table: &[u8], shelf: &[u8], t: u32) {
     }
 }
 
-pub fn peek<'a>(desk: &[u8], table: &'a [u8], shelf: &'a [u8], t: u32) {
+fn peek<'a>(desk: &[u8], table: &'a [u8], shelf: &'a [u8], t: u32) {
     show::named(b"peek ", t);
     let part = calls::peek(desk, table, shelf, Ticket(t));
     if part.len() == 56 {
@@ -121,5 +136,39 @@ pub fn peek<'a>(desk: &[u8], table: &'a [u8], shelf: &'a [u8], t: u32) {
         show::words(b"\n");
     } else {
         show::words(b": empty\n");
+    }
+}
+
+fn open_or_owed(line: &[u8], desk: &mut [u8], table: &mut [u8], shelf: &mut [u8], x: u32) {
+    if text::letter(line, 1) == b'p' {
+        open(desk, table, shelf, x);
+    } else {
+        owed(desk, table, shelf, x);
+    }
+}
+
+// The call of a line, by its first letter, and by its second for open and owed, with so many bytes of body and hand-out
+// buffer.
+pub fn turn(
+    line: &[u8],
+    desk: &mut [u8],
+    table: &mut [u8],
+    shelf: &mut [u8],
+    body: u32,
+    room: u32,
+) {
+    let x = text::word(line, 1);
+    let b = body_of(line);
+    let n = io::count(body as isize, &b);
+    match text::letter(line, 0) {
+        b'i' => insert(desk, table, shelf, x, &b[..n]),
+        b'm' => modify(desk, table, shelf, x, &b[..n]),
+        b'd' => delete(desk, table, shelf, x),
+        b'b' => begin(desk, table, shelf),
+        b'n' => next(desk, table, shelf, x, text::word(line, 2), room),
+        b't' => tally(desk, table, shelf),
+        b'p' => peek(desk, table, shelf, x),
+        b'o' => open_or_owed(line, desk, table, shelf, x),
+        _ => show::words(b"no such step\n"),
     }
 }

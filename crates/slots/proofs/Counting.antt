@@ -14,7 +14,7 @@ use Rattle.rules.specs.Masks.{on}
 use Rattle.rules.specs.Memory.{slotAt, slotsOf}
 use Rattle.rules.proofs.Bits.{not-on}
 use Rattle.laws.specs.Search.{waiting}
-use Rattle.laws.proofs.Search.{one, count-turn, count-end, count-past}
+use Rattle.laws.proofs.Search.{oneIf, count-turn, count-end, count-past}
 use Rattle.slots.specs.Waiting.{waitingFrom}
 
 module _ (l : List ℕ) (flip p : ℕ) where
@@ -30,13 +30,13 @@ module _ (l : List ℕ) (flip p : ℕ) where
   unfolding waitingFrom
   from-last i h = count-end (waiting flip p) (slotAt l) i (length l / 64) h
 
-  pub from-turn : (i : ℕ) → i < length l / 64 → waitingFrom flip p l i ≡ one (waiting flip p (slotAt l i)) + waitingFrom flip p l (i + 1)
+  pub from-turn : (i : ℕ) → i < length l / 64 → waitingFrom flip p l i ≡ oneIf (waiting flip p (slotAt l i)) + waitingFrom flip p l (i + 1)
   unfolding waitingFrom
   from-turn i h = count-turn (waiting flip p) (slotAt l) i (length l / 64) h
 
   -- four slots at once
   pub from-four : (i : ℕ) → i + 4 ≤ length l / 64
-      → waitingFrom flip p l i ≡ one (waiting flip p (slotAt l i)) + one (waiting flip p (slotAt l (i + 1))) + one (waiting flip p (slotAt l (i + 2))) + one (waiting flip p (slotAt l (i + 3))) + waitingFrom flip p l (i + 4)
+      → waitingFrom flip p l i ≡ oneIf (waiting flip p (slotAt l i)) + oneIf (waiting flip p (slotAt l (i + 1))) + oneIf (waiting flip p (slotAt l (i + 2))) + oneIf (waiting flip p (slotAt l (i + 3))) + waitingFrom flip p l (i + 4)
   from-four i h =
       let x : i + 1 + 1 ≡ i + 2 = omega arith in
       let y : i + 2 + 1 ≡ i + 3 = omega arith in

@@ -1,30 +1,83 @@
-// Search and counts over the slots of a table or the entries of a shelf.
+// The slots of a table or the entries of a shelf: oneIf of them, search over them and counts.
+ghost use mathlib.Core.Bool.{_||_};
 ghost use mathlib.Core.Path.{_≡_};
 ghost use Prim.Native.Nat.{ℕ, _+_, _*_, _-_, _/_, _≤_, _<_};
+ghost use denote.Ref.{ptr};
+ghost use lib.Dec.{eqb};
 ghost use lib.ListN.{length};
-ghost use Rattle.rules.specs.Bytes.{u32At};
+ghost use Rattle.rules.specs.Bytes.{field, u32At, u64At};
 ghost use Rattle.rules.specs.Calls.{first, used as usedOf, count};
 ghost use Rattle.rules.specs.Memory.{slotAt, slotsOf};
 ghost use Rattle.laws.specs.Search.{bears, bearsOrEmpty, waiting as waitingIn};
-ghost use Rattle.laws.proofs.Search.{one};
+ghost use Rattle.laws.proofs.Search.{oneIf};
 ghost use Rattle.slots.specs.Waiting.{waitingFrom};
 use rules::Position;
 use rules::RecordNumber;
 use rules::SlotNumber;
 
+pub mod write;
+
+// How many there are.
+pub fn slot_count(slots: &[u8]) -> usize
+    ensures { λ r. ⌜ r ≡ length (now (slots .entry)) / 64 ⌝ }
+{
+    slots.len() / 64
+}
+
+pub fn number_at(slots: &[u8], i: SlotNumber) -> RecordNumber
+    requires { ⌜ i .0 < length (now slots) / 64 ⌝ }
+    ensures { λ r. ⌜ r .0 ≡ u32At (now (slots .entry)) (i .0 * 64) ⌝ }
+{
+    RecordNumber(layout::get32(slots, i.offset(64)))
+}
+
+// The status mask of a slot, or an entry's remset status mask.
+pub fn mask_at(slots: &[u8], i: SlotNumber) -> u64
+    requires { ⌜ i .0 < length (now slots) / 64 ⌝ }
+    ensures { λ r. ⌜ r ≡ u64At (now (slots .entry)) (i .0 * 64 + 56) ⌝ }
+{
+    layout::get64(slots, i.offset(64) + 56)
+}
+
+// The 56 bytes of number and body, as a part of the buffer and no copy.
+pub fn version(slots: &[u8], i: SlotNumber) -> &[u8]
+    requires { ⌜ i .0 < length (now slots) / 64 ⌝ }
+    ensures { λ r. ⌜ (now r ≡ field 56 (i .0 * 64) (now (slots .entry))) × (ptr r ≡ (ptr (slots .entry) .0, i .0 * 64 + ptr (slots .entry) .1)) ⌝ }
+{
+    let from = i.offset(64);
+    let to = from + 56;
+    &slots[from..to]
+}
+
+// Slot i bears the number.
+fn bears_number(slots: &[u8], i: SlotNumber, k: RecordNumber) -> bool
+    requires { ⌜ i .0 < length (now slots) / 64 ⌝ }
+    ensures { λ r. ⌜ r ≡ eqb (u32At (now (slots .entry)) (i .0 * 64)) (k .0) ⌝ }
+{
+    number_at(slots, i).is(k)
+}
+
+// Slot i bears the number or is empty.
+fn bears_or_is_empty(slots: &[u8], i: SlotNumber, k: RecordNumber) -> bool
+    requires { ⌜ i .0 < length (now slots) / 64 ⌝ }
+    ensures { λ r. ⌜ r ≡ eqb (u32At (now (slots .entry)) (i .0 * 64)) (k .0) || eqb (u32At (now (slots .entry)) (i .0 * 64)) 0 ⌝ }
+{
+    let number = number_at(slots, i);
+    number.is(k) | number.is_none()
+}
+
 // Past the blocks of four slots from `from` on in which none bears the number.
-fn past_fours(slots: &[u8], number: u32, from: usize) -> usize
+fn past_fours(slots: &[u8], k: RecordNumber, from: usize) -> usize
     requires { ⌜ from ≤ length (now slots) / 64 ⌝ }
-    ensures { λ r. ⌜ (r ≤ length (now (slots .entry)) / 64) × (first (bears (slotsOf (now (slots .entry))) number) from (length (now (slots .entry)) / 64 - from) ≡ first (bears (slotsOf (now (slots .entry))) number) r (length (now (slots .entry)) / 64 - r)) ⌝ }
+    ensures { λ r. ⌜ (r ≤ length (now (slots .entry)) / 64) × (first (bears (slotsOf (now (slots .entry))) (k .0)) from (length (now (slots .entry)) / 64 - from) ≡ first (bears (slotsOf (now (slots .entry))) (k .0)) r (length (now (slots .entry)) / 64 - r)) ⌝ }
 {
     let end = slots.len() / 64;
     let mut i = from;
     while i + 4 <= end {
-        let at = i * 64;
-        let a = layout::get32(slots, at) == number;
-        let b = layout::get32(slots, at + 64) == number;
-        let c = layout::get32(slots, at + 128) == number;
-        let d = layout::get32(slots, at + 192) == number;
+        let a = bears_number(slots, SlotNumber(i), k);
+        let b = bears_number(slots, SlotNumber(i + 1), k);
+        let c = bears_number(slots, SlotNumber(i + 2), k);
+        let d = bears_number(slots, SlotNumber(i + 3), k);
         if (a | b) | (c | d) {
             break;
         }
@@ -33,8 +86,8 @@ fn past_fours(slots: &[u8], number: u32, from: usize) -> usize
     i
 }
 
-// Past the blocks of four empty slots from `from` on, up to `stop`.
-pub fn past_empty(slots: &[u8], from: usize, stop: usize) -> usize
+// Past the blocks of four empty slots from `from` on, up to `stop`, by their bare numbers.
+fn past_empty_fours(slots: &[u8], from: usize, stop: usize) -> usize
     requires { ⌜ (from ≤ stop) × (stop ≤ length (now slots) / 64) ⌝ }
     ensures { λ r. ⌜ (from ≤ r) × (r ≤ stop) × ((j : ℕ) → from ≤ j → j < r → u32At (now (slots .entry)) (j * 64) ≡ 0) ⌝ }
 {
@@ -54,16 +107,23 @@ pub fn past_empty(slots: &[u8], from: usize, stop: usize) -> usize
     i
 }
 
+// Past the blocks of four empty slots from `from` on, up to `stop`.
+pub fn past_empty(slots: &[u8], from: SlotNumber, stop: SlotNumber) -> SlotNumber
+    requires { ⌜ (from .0 ≤ stop .0) × (stop .0 ≤ length (now slots) / 64) ⌝ }
+    ensures { λ r. ⌜ (from .0 ≤ r .0) × (r .0 ≤ stop .0) × ((j : ℕ) → from .0 ≤ j → j < r .0 → u32At (now (slots .entry)) (j * 64) ≡ 0) ⌝ }
+{
+    SlotNumber(past_empty_fours(slots, from.0, stop.0))
+}
+
 // The lowest slot from `from` on that bears the number, or the count of slots.
 pub fn bearing(slots: &[u8], k: RecordNumber, from: SlotNumber) -> SlotNumber
     requires { ⌜ from .0 ≤ length (now slots) / 64 ⌝ }
     ensures { λ r. ⌜ r .0 ≡ first (bears (slotsOf (now (slots .entry))) (k .0)) (from .0) (length (now (slots .entry)) / 64 - from .0) ⌝ }
 {
     let end = slots.len() / 64;
-    let number = k.0;
-    let mut i = past_fours(slots, number, from.0);
+    let mut i = past_fours(slots, k, from.0);
     while i < end {
-        if layout::get32(slots, i * 64) == number {
+        if bears_number(slots, SlotNumber(i), k) {
             break;
         }
         i += 1;
@@ -71,21 +131,25 @@ pub fn bearing(slots: &[u8], k: RecordNumber, from: SlotNumber) -> SlotNumber
     SlotNumber(i)
 }
 
+// The lowest empty slot, or the count of slots.
+pub fn empty(slots: &[u8]) -> SlotNumber
+    ensures { λ r. ⌜ r .0 ≡ first (bears (slotsOf (now (slots .entry))) 0) 0 (length (now (slots .entry)) / 64 - 0) ⌝ }
+{
+    bearing(slots, RecordNumber(0), SlotNumber(0))
+}
+
 // Past the blocks of four slots from the first on that are all in use and of which none bears the number.
-fn past_taken(slots: &[u8], number: u32) -> usize
-    ensures { λ r. ⌜ (r ≤ length (now (slots .entry)) / 64) × (first (bearsOrEmpty (slotsOf (now (slots .entry))) number) 0 (length (now (slots .entry)) / 64) ≡ first (bearsOrEmpty (slotsOf (now (slots .entry))) number) r (length (now (slots .entry)) / 64 - r)) ⌝ }
+fn past_taken(slots: &[u8], k: RecordNumber) -> usize
+    ensures { λ r. ⌜ (r ≤ length (now (slots .entry)) / 64) × (first (bearsOrEmpty (slotsOf (now (slots .entry))) (k .0)) 0 (length (now (slots .entry)) / 64) ≡ first (bearsOrEmpty (slotsOf (now (slots .entry))) (k .0)) r (length (now (slots .entry)) / 64 - r)) ⌝ }
 {
     let end = slots.len() / 64;
     let mut i: usize = 0;
     while i + 4 <= end {
-        let at = i * 64;
-        let a = layout::get32(slots, at);
-        let b = layout::get32(slots, at + 64);
-        let c = layout::get32(slots, at + 128);
-        let d = layout::get32(slots, at + 192);
-        let ab = ((a == number) | (a == 0)) | ((b == number) | (b == 0));
-        let cd = ((c == number) | (c == 0)) | ((d == number) | (d == 0));
-        if ab | cd {
+        let a = bears_or_is_empty(slots, SlotNumber(i), k);
+        let b = bears_or_is_empty(slots, SlotNumber(i + 1), k);
+        let c = bears_or_is_empty(slots, SlotNumber(i + 2), k);
+        let d = bears_or_is_empty(slots, SlotNumber(i + 3), k);
+        if (a | b) | (c | d) {
             break;
         }
         i += 4;
@@ -98,11 +162,9 @@ pub fn bearing_or_empty(slots: &[u8], k: RecordNumber) -> SlotNumber
     ensures { λ r. ⌜ r .0 ≡ first (bearsOrEmpty (slotsOf (now (slots .entry))) (k .0)) 0 (length (now (slots .entry)) / 64) ⌝ }
 {
     let end = slots.len() / 64;
-    let number = k.0;
-    let mut i = past_taken(slots, number);
+    let mut i = past_taken(slots, k);
     while i < end {
-        let n = layout::get32(slots, i * 64);
-        if (n == number) | (n == 0) {
+        if bears_or_is_empty(slots, SlotNumber(i), k) {
             break;
         }
         i += 1;
@@ -111,7 +173,7 @@ pub fn bearing_or_empty(slots: &[u8], k: RecordNumber) -> SlotNumber
 }
 
 fn one_if(b: bool) -> u32
-    ensures { λ r. ⌜ (r ≡ one b) × (r ≤ 1) ⌝ }
+    ensures { λ r. ⌜ (r ≡ oneIf b) × (r ≤ 1) ⌝ }
 {
     if b { 1 } else { 0 }
 }
@@ -200,7 +262,7 @@ pub fn waiting(slots: &[u8], flip: u64, p: Position) -> u32
         if i + 4 > end {
             break;
         }
-        let next = past_empty(slots, i, end);
+        let next = past_empty_fours(slots, i, end);
         if next > i {
             i = next;
             continue;

@@ -1,7 +1,6 @@
 use mathlib.Core.Path.{_≡_, sym, _∙_}
 use Prim.Native.Nat.{_-_, _≤_}
 use native.Mathlib.Omega.{arith}
-use borrow.Author.Tests.{eq-eqb, ne-eqb}
 use Rattle.rules.specs.Calls.{first}
 use Rattle.rules.proofs.First.{first-hit, first-miss, first-end}
 use Rattle.desk.proofs.Position.{bears}
@@ -10,10 +9,10 @@ use Rattle.desk.proofs.bearing_below.Statement.{statement}
 use Rattle.desk.proofs.bearing_below.Tie as tie
 
 abbrev Inv-loop : tie.InvT-loop
-Inv-loop desk t n i₀ i = (i ≤ n) × (first (bears desk (t .0)) 0 n ≡ first (bears desk (t .0)) i (n - i))
+Inv-loop desk ticket n i₀ i = (i ≤ n) × (first (bears desk (ticket .0)) 0 n ≡ first (bears desk (ticket .0)) i (n - i))
 
 abbrev μ-loop : tie.MeasureT-loop
-μ-loop desk t n i₀ i = n - i
+μ-loop desk ticket n i₀ i = n - i
 
 loop-holds : tie.Need-loop-holds Inv-loop μ-loop
 loop-holds c =
@@ -22,28 +21,28 @@ loop-holds c =
 
 returns : tie.Need-returns Inv-loop μ-loop
 returns c =
-    let loop = c .before .before .before .before .loop in
-    let start = c .before .before .before .before .before .before .before in
-    let loop-test = c .before .before .before .loop-test in
-    let get32 = c .before .before .get32 in
+    let loop = c .before .before .before .loop in
+    let start = c .before .before .before .before .before .before in
+    let loop-test = c .before .before .loop-test in
+    let here = c .before .bears in
     let if1 = c .if1 in
-    sym (loop .inv .1 ∙ first-hit (bears (start .args .desk .now) (start .args .t .0)) (loop .i) (start .args .n) (loop-test .taken) (eq-eqb _ _ (sym (get32 .ensures) ∙ if1 .taken)))
+    sym (loop .inv .1 ∙ first-hit (bears (start .args .desk .now) (start .args .ticket .0)) (loop .i) (start .args .n) (loop-test .taken) (sym (here .ensures) ∙ if1 .taken))
 
 loop-again : tie.Need-loop-again Inv-loop μ-loop
 loop-again c =
-    let loop = c .before .before .before .before .loop in
-    let start = c .before .before .before .before .before .before .before in
-    let loop-test = c .before .before .before .loop-test in
+    let loop = c .before .before .before .loop in
+    let start = c .before .before .before .before .before .before in
+    let loop-test = c .before .before .loop-test in
+    let here = c .before .bears in
     let if1 = c .if1 in
-    let get32 = c .before .before .get32 in
-    (omega arith, loop .inv .1 ∙ first-miss (bears (start .args .desk .now) (start .args .t .0)) (loop .i) (start .args .n) (loop-test .taken) (ne-eqb _ _ (λ e. if1 .left (get32 .ensures ∙ e))))
+    (omega arith, loop .inv .1 ∙ first-miss (bears (start .args .desk .now) (start .args .ticket .0)) (loop .i) (start .args .n) (loop-test .taken) (sym (here .ensures) ∙ if1 .left))
 
 returns-2 : tie.Need-returns-2 Inv-loop μ-loop
 returns-2 c =
     let loop = c .before .loop in
     let start = c .before .before .before .before in
     let loop-test = c .loop-test in
-    sym (loop .inv .1 ∙ first-end (bears (start .args .desk .now) (start .args .t .0)) (loop .i) (start .args .n) (loop-test .left))
+    sym (loop .inv .1 ∙ first-end (bears (start .args .desk .now) (start .args .ticket .0)) (loop .i) (start .args .n) (loop-test .left))
 
 pub bearing-below-spec : {M : Type 1} → statement M
 bearing-below-spec =
@@ -53,9 +52,6 @@ bearing-below-spec =
     μ-loop
     (λ c κs. search needs)
     loop-holds
-    (λ c. search needs)
-    (λ c. search needs)
-    (λ c. search needs)
     (λ c κs. search needs)
     returns
     (λ c. search needs)

@@ -1,23 +1,18 @@
-use Rattle.desk.proofs.OneCard.{card-by}
+use mathlib.Core.Path.{refl}
 use borrow.Author.Needs.{needs}
 use Rattle.desk.proofs.card_at.Statement.{statement}
 use Rattle.desk.proofs.card_at.Tie as tie
 
 returns : tie.Need-returns
 returns c =
-    let start = c .before .before .before .before .before .before in
-    let get32 = c .before .before .before .get32 in
-    let get322 = c .before .before .get322 in
-    let get323 = c .before .get323 in
-    let get324 = c .get324 in
-    card-by (start .args .desk .now) (start .args .p .0) (get32 .ensures) (get322 .ensures) (get323 .ensures) (get324 .ensures)
+    let offset = c .before .before .before .before .offset in
+    rw (c .before .before .before .get32 .ensures, c .before .before .get322 .ensures, c .before .get323 .ensures, c .get324 .ensures, offset .ensures) refl
 
 pub card-at-spec : {M : Type 1} → statement M
 card-at-spec =
     tie.close
     (tie.spec
-    (λ c. search needs)
-    (λ c. search needs)
+    (λ c κs. search needs)
     (λ c. search needs)
     (λ c κs. search needs)
     (λ c. search needs)

@@ -1,36 +1,36 @@
 -- The search from the start is the search from here.
-use mathlib.Core.Path.{_≡_, _∙_}
+use mathlib.Core.Path.{_≡_, sym, _∙_}
 use Prim.Native.Nat.{_-_, _≤_, _+_, _*_}
 use native.Mathlib.Omega.{arith}
 use Rattle.rules.specs.Calls.{first}
-use Rattle.rules.proofs.First.{first-start}
-use Rattle.desk.proofs.Position.{bears, four-cards}
+use Rattle.rules.proofs.First.{first-start, first-miss-four}
+use Rattle.desk.proofs.Position.{bears}
 use borrow.Author.Needs.{needs}
 use Rattle.desk.proofs.past_four_cards.Statement.{statement}
 use Rattle.desk.proofs.past_four_cards.Tie as tie
 
 abbrev Inv-loop : tie.InvT-loop
-Inv-loop desk n ticket i₀ i = (i ≤ n) × (first (bears desk ticket) 0 n ≡ first (bears desk ticket) i (n - i))
+Inv-loop desk ticket n i₀ i = (i ≤ n) × (first (bears desk (ticket .0)) 0 n ≡ first (bears desk (ticket .0)) i (n - i))
 
 abbrev μ-loop : tie.MeasureT-loop
-μ-loop desk n ticket i₀ i = n - i
+μ-loop desk ticket n i₀ i = n - i
 
 loop-holds : tie.Need-loop-holds Inv-loop μ-loop
 loop-holds c =
     let start = c .before in
-    (search needs, first-start (bears (start .args .desk .now) (start .args .t .0)) (start .args .n))
+    (search needs, first-start (bears (start .args .desk .now) (start .args .ticket .0)) (start .args .n))
 
 loop-again : tie.Need-loop-again Inv-loop μ-loop
 loop-again c =
     let loop = c .before .before .before .before .before .before .loop in
     let start = c .before .before .before .before .before .before .before .before in
     let loop-test = c .before .before .before .before .before .loop-test in
-    let get32 = c .before .before .before .before .get32 in
-    let get322 = c .before .before .before .get322 in
-    let get323 = c .before .before .get323 in
-    let get324 = c .before .get324 in
+    let bears1 = c .before .before .before .before .bears in
+    let bears2 = c .before .before .before .bears2 in
+    let bears3 = c .before .before .bears3 in
+    let bears4 = c .before .bears4 in
     let if1 = c .if1 in
-    (omega arith, loop .inv .1 ∙ four-cards (start .args .desk .now) (start .args .t .0) (loop .i) (start .args .n) (loop-test .taken) (get32 .ensures) (get322 .ensures) (get323 .ensures) (get324 .ensures) (if1 .left))
+    (omega arith, loop .inv .1 ∙ first-miss-four (bears (start .args .desk .now) (start .args .ticket .0)) (loop .i) (start .args .n) (loop-test .taken) (sym (bears1 .ensures)) (sym (bears2 .ensures)) (sym (bears3 .ensures)) (sym (bears4 .ensures)) (if1 .left))
 
 returns : tie.Need-returns Inv-loop μ-loop
 returns c =
@@ -49,9 +49,6 @@ past-four-cards-spec =
     Inv-loop
     μ-loop
     loop-holds
-    (λ c. search needs)
-    (λ c. search needs)
-    (λ c. search needs)
     (λ c. search needs)
     (λ c κs. search needs)
     (λ c. search needs)

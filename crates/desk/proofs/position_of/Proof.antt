@@ -9,7 +9,7 @@ returns c =
     let start = c .before .before .before in
     let get64 = c .before .get64 in
     let if1 = c .if1 in
-    position-nowhere (start .args .desk .now) (start .args .t .0) (start .pre .3 (sym (get64 .ensures) ∙ if1 .taken))
+    position-nowhere (start .args .desk .now) (start .args .ticket .0) (start .pre .3 (sym (get64 .ensures) ∙ if1 .taken))
 
 returns-2 : tie.Need-returns-2
 returns-2 c =
@@ -17,7 +17,7 @@ returns-2 c =
     let get32 = c .before .before .get32 in
     let bearing-below = c .before .bearing-below in
     let if2 = c .if2 in
-    position-found (start .args .desk .now) (start .args .t .0) (get32 .ensures) (bearing-below .ensures) (start .pre .1) (if2 .taken)
+    position-found (start .args .desk .now) (start .args .ticket .0) (get32 .ensures) (bearing-below .ensures) (start .pre .1) (if2 .taken)
 
 returns-3 : tie.Need-returns-3
 returns-3 c =
@@ -25,7 +25,7 @@ returns-3 c =
     let get32 = c .before .before .get32 in
     let bearing-below = c .before .bearing-below in
     let if2 = c .if2 in
-    position-none (start .args .desk .now) (start .args .t .0) (get32 .ensures) (bearing-below .ensures) (start .pre .1) (if2 .left) (start .pre .2)
+    position-none (start .args .desk .now) (start .args .ticket .0) (get32 .ensures) (bearing-below .ensures) (start .pre .1) (if2 .left) (start .pre .2)
 
 pub position-of-spec : {M : Type 1} → statement M
 position-of-spec =

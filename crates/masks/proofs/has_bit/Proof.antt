@@ -6,13 +6,13 @@ use Rattle.masks.proofs.has_bit.Tie as tie
 
 returns : tie.Need-returns
 unfolding bit
-returns c =
-    refl
+returns c = rw (c .bit .ensures) refl
 
 pub has-bit-spec : {M : Type 1} → statement M
 has-bit-spec =
     tie.close
     (tie.spec
+    (λ c. search needs)
     (λ c. search needs)
     (λ c. search needs)
     returns)

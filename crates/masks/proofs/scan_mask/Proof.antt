@@ -11,12 +11,13 @@ returns : tie.Need-returns
 unfolding scanMask
 returns c =
     let start = c .before in
-    rw (one-mul (2 ^ start .args .p .0)) (mod-eq-of-lt (pow-lt (start .pre)))
+    rw (c .bit .ensures, one-mul (2 ^ start .args .p .0)) (mod-eq-of-lt (pow-lt (start .pre)))
 
 pub scan-mask-spec : {M : Type 1} → statement M
 scan-mask-spec =
     tie.close
     (tie.spec
+    (λ c. search needs)
     (λ c. search needs)
     (λ c. search needs)
     returns)

@@ -1,18 +1,18 @@
 use mathlib.Core.Path.{_≡_, refl, sym, ap, _∙_}
 use Rattle.rules.specs.Answers.{tallySays}
 use Rattle.laws.proofs.Cases.{tally-done}
-use Rattle.rules.specs.Memory.{lent, read}
+use Rattle.rules.specs.Memory.{storeOf}
 use borrow.Author.Needs.{needs}
 use Rattle.scans.proofs.tally.Statement.{statement}
 use Rattle.scans.proofs.tally.Tie as tie
 
 returns : tie.Need-returns
-unfolding tallySays read
+unfolding tallySays storeOf
 returns c =
     let used = c .before .used in
     let used2 = c .used2 in
     let start = c .before .before .before .before in
-    λ d. rw (used .ensures, used2 .ensures) (tally-done (read (lent d (start .args .table .now) (start .args .shelf .now))))
+    λ d. rw (used .ensures, used2 .ensures) (tally-done (storeOf d (start .args .table .now) (start .args .shelf .now)))
 
 pub tally-spec : {M : Type 1} → statement M
 tally-spec =

@@ -7,16 +7,16 @@ use Rattle.rules.specs.Calls.{first}
 use Rattle.rules.specs.Memory.{slotsOf}
 use Rattle.laws.specs.Search.{bears}
 use Rattle.rules.proofs.First.{first-hit, first-miss, first-end}
-use Rattle.laws.proofs.Search.{bears-it, bears-not}
+use Rattle.laws.proofs.Search.{bears-is}
 use borrow.Author.Needs.{needs}
 use Rattle.slots.proofs.bearing.Statement.{statement}
 use Rattle.slots.proofs.bearing.Tie as tie
 
 abbrev Inv-loop : tie.InvT-loop
-Inv-loop slots end number i₀ i = (i ≤ end) × (first (bears (slotsOf slots) number) i₀ (length slots / 64 - i₀) ≡ first (bears (slotsOf slots) number) i (length slots / 64 - i))
+Inv-loop slots k end i₀ i = (i ≤ end) × (first (bears (slotsOf slots) (k .0)) i₀ (length slots / 64 - i₀) ≡ first (bears (slotsOf slots) (k .0)) i (length slots / 64 - i))
 
 abbrev μ-loop : tie.MeasureT-loop
-μ-loop slots end number i₀ i = end - i
+μ-loop slots k end i₀ i = end - i
 
 loop-holds : tie.Need-loop-holds Inv-loop μ-loop
 loop-holds c =
@@ -29,8 +29,8 @@ loop-again c =
     let start = c .before .before .before .before .before .before in
     let loop-test = c .before .before .loop-test in
     let if1 = c .if1 in
-    let get32 = c .before .get32 in
-    (omega arith, loop .inv .1 ∙ first-miss (bears (slotsOf (start .args .slots .now)) (start .args .k .0)) (loop .i) (length (start .args .slots .now) / 64) (loop-test .taken) (bears-not (start .args .slots .now) (start .args .k .0) (loop .i) (loop-test .taken) (λ e. if1 .left (get32 .ensures ∙ e))))
+    let here = c .before .bears-number in
+    (omega arith, loop .inv .1 ∙ first-miss (bears (slotsOf (start .args .slots .now)) (start .args .k .0)) (loop .i) (length (start .args .slots .now) / 64) (loop-test .taken) (bears-is (start .args .slots .now) (start .args .k .0) (loop .i) (loop-test .taken) ∙ sym (here .ensures) ∙ if1 .left))
 
 returns : tie.Need-returns Inv-loop μ-loop
 returns c =
@@ -45,9 +45,9 @@ returns-2 c =
     let loop = c .before .before .before .loop in
     let start = c .before .before .before .before .before .before in
     let loop-test = c .before .before .loop-test in
-    let get32 = c .before .get32 in
+    let here = c .before .bears-number in
     let if1 = c .if1 in
-    sym (past-fours .ensures .1 ∙ loop .inv .1 ∙ first-hit (bears (slotsOf (start .args .slots .now)) (start .args .k .0)) (loop .i) (length (start .args .slots .now) / 64) (loop-test .taken) (bears-it (start .args .slots .now) (start .args .k .0) (loop .i) (loop-test .taken) (sym (get32 .ensures) ∙ if1 .taken)))
+    sym (past-fours .ensures .1 ∙ loop .inv .1 ∙ first-hit (bears (slotsOf (start .args .slots .now)) (start .args .k .0)) (loop .i) (length (start .args .slots .now) / 64) (loop-test .taken) (bears-is (start .args .slots .now) (start .args .k .0) (loop .i) (loop-test .taken) ∙ sym (here .ensures) ∙ if1 .taken))
 
 pub bearing-spec : {M : Type 1} → statement M
 bearing-spec =
@@ -57,7 +57,6 @@ bearing-spec =
     μ-loop
     (λ c κs. search needs)
     loop-holds
-    (λ c. search needs)
     (λ c κs. search needs)
     (λ c. search needs)
     (λ c. search needs)

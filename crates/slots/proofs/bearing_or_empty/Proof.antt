@@ -13,10 +13,10 @@ use Rattle.slots.proofs.bearing_or_empty.Statement.{statement}
 use Rattle.slots.proofs.bearing_or_empty.Tie as tie
 
 abbrev Inv-loop : tie.InvT-loop
-Inv-loop slots end number i₀ i = (i ≤ end) × (first (bearsOrEmpty (slotsOf slots) number) 0 (length slots / 64) ≡ first (bearsOrEmpty (slotsOf slots) number) i (length slots / 64 - i))
+Inv-loop slots k end i₀ i = (i ≤ end) × (first (bearsOrEmpty (slotsOf slots) (k .0)) 0 (length slots / 64) ≡ first (bearsOrEmpty (slotsOf slots) (k .0)) i (length slots / 64 - i))
 
 abbrev μ-loop : tie.MeasureT-loop
-μ-loop slots end number i₀ i = end - i
+μ-loop slots k end i₀ i = end - i
 
 loop-holds : tie.Need-loop-holds Inv-loop μ-loop
 loop-holds c =
@@ -28,9 +28,9 @@ loop-again c =
     let loop = c .before .before .before .loop in
     let start = c .before .before .before .before .before .before in
     let loop-test = c .before .before .loop-test in
-    let get32 = c .before .get32 in
+    let here = c .before .bears-or-is-empty in
     let if1 = c .if1 in
-    (omega arith, loop .inv .1 ∙ first-miss (bearsOrEmpty (slotsOf (start .args .slots .now)) (start .args .k .0)) (loop .i) (length (start .args .slots .now) / 64) (loop-test .taken) (bears-or-empty-is (start .args .slots .now) (start .args .k .0) (loop .i) (loop-test .taken) ∙ rw (← get32 .ensures) (if1 .left)))
+    (omega arith, loop .inv .1 ∙ first-miss (bearsOrEmpty (slotsOf (start .args .slots .now)) (start .args .k .0)) (loop .i) (length (start .args .slots .now) / 64) (loop-test .taken) (bears-or-empty-is (start .args .slots .now) (start .args .k .0) (loop .i) (loop-test .taken) ∙ sym (here .ensures) ∙ if1 .left))
 
 returns : tie.Need-returns Inv-loop μ-loop
 returns c =
@@ -43,9 +43,9 @@ returns-2 c =
     let loop = c .before .before .before .loop in
     let start = c .before .before .before .before .before .before in
     let loop-test = c .before .before .loop-test in
-    let get32 = c .before .get32 in
+    let here = c .before .bears-or-is-empty in
     let if1 = c .if1 in
-    sym (loop .inv .1 ∙ first-hit (bearsOrEmpty (slotsOf (start .args .slots .now)) (start .args .k .0)) (loop .i) (length (start .args .slots .now) / 64) (loop-test .taken) (bears-or-empty-is (start .args .slots .now) (start .args .k .0) (loop .i) (loop-test .taken) ∙ rw (← get32 .ensures) (if1 .taken)))
+    sym (loop .inv .1 ∙ first-hit (bearsOrEmpty (slotsOf (start .args .slots .now)) (start .args .k .0)) (loop .i) (length (start .args .slots .now) / 64) (loop-test .taken) (bears-or-empty-is (start .args .slots .now) (start .args .k .0) (loop .i) (loop-test .taken) ∙ sym (here .ensures) ∙ if1 .taken))
 
 pub bearing-or-empty-spec : {M : Type 1} → statement M
 bearing-or-empty-spec =
@@ -55,7 +55,6 @@ bearing-or-empty-spec =
     μ-loop
     (λ c κs. search needs)
     loop-holds
-    (λ c. search needs)
     (λ c κs. search needs)
     (λ c. search needs)
     (λ c. search needs)

@@ -1,6 +1,6 @@
 -- What is counted and what is still to be counted is the whole.
 use native.Mathlib.Nat.{sub-zero, zero-add}
-use Rattle.laws.proofs.Search.{one, count-turn, count-end}
+use Rattle.laws.proofs.Search.{oneIf, count-turn, count-end}
 use mathlib.Core.Path.{_≡_, refl, sym, ap, _∙_}
 use Prim.Native.Nat.{_≤_, _-_, _/_, _+_, _*_}
 use native.Mathlib.Omega.{arith}
@@ -31,7 +31,7 @@ loop-again c =
     let one-if = c .one-if in
     let get32 = c .before .get32 in
     let turn = count-turn inUse (slotAt (start .args .slots .now)) (loop .i) (length (start .args .slots .now) / 64) (loop-test .taken) in
-    let here : one-if .result ≡ one (inUse (slotAt (start .args .slots .now) (loop .i))) = one-if .ensures .0 ∙ rw (get32 .ensures) refl in
+    let here : one-if .result ≡ oneIf (inUse (slotAt (start .args .slots .now) (loop .i))) = one-if .ensures .0 ∙ rw (get32 .ensures) refl in
     (omega arith, omega arith, omega arith)
 
 returns : tie.Need-returns Inv-loop μ-loop

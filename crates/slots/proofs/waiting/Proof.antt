@@ -2,7 +2,7 @@
 use mathlib.Core.Path.{_≡_, ap, _∙_}
 use Prim.Native.Nat.{_+_, _-_, _≤_}
 use native.Mathlib.Omega.{arith}
-use Rattle.laws.proofs.Search.{one}
+use Rattle.laws.proofs.Search.{oneIf}
 use Rattle.slots.specs.Waiting.{waitingFrom}
 use Rattle.slots.proofs.Counting.{from-first, from-last, from-turn, from-past-empty}
 use borrow.Author.Needs.{needs}
@@ -28,7 +28,7 @@ loop-again : tie.Need-loop-again Inv-loop μ-loop Inv-loop2 μ-loop2
 loop-again c =
     let start = c .before .before .before .before .before .before .before in
     let run = c .before .before .before .before .run-in-use in
-    let past-empty = c .before .past-empty in
+    let past-empty = c .before .past-empty-fours in
     let passed = from-past-empty (start .args .slots .now) (start .args .flip) (start .args .p .0) (run .result .next) (past-empty .result) (past-empty .ensures .0) (past-empty .ensures .1) (past-empty .ensures .2) in
     (omega arith, omega arith, omega arith)
 
@@ -43,7 +43,7 @@ loop2-again c =
     let waits = c .before .waits in
     let one-if = c .one-if in
     let turn = from-turn (start .args .slots .now) (start .args .flip) (start .args .p .0) (loop2 .i) (loop2-test .taken) in
-    let here = one-if .ensures .0 ∙ ap one (waits .ensures) in
+    let here = one-if .ensures .0 ∙ ap oneIf (waits .ensures) in
     (omega arith, omega arith, omega arith)
 
 returns : tie.Need-returns Inv-loop μ-loop Inv-loop2 μ-loop2

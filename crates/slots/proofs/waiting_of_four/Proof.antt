@@ -1,7 +1,7 @@
 -- One turn of the count for each of the four.
 use mathlib.Core.Path.{ap, _∙_}
 use native.Mathlib.Omega.{arith}
-use Rattle.laws.proofs.Search.{one}
+use Rattle.laws.proofs.Search.{oneIf}
 use Rattle.slots.proofs.Counting.{from-four}
 use borrow.Author.Needs.{needs}
 use Rattle.slots.proofs.waiting_of_four.Statement.{statement}
@@ -18,7 +18,7 @@ returns c =
     let waits2 = c .before .before .before .before .before .waits2 in
     let one-if = c .before .before .before .before .before .before .one-if in
     let waits = c .before .before .before .before .before .before .before .waits in
-    (omega arith, omega (arith, from-four (start .args .slots .now) (start .args .flip) (start .args .p .0) (start .args .i) (start .pre .0), one-if .ensures .0 ∙ ap one (waits .ensures), one-if2 .ensures .0 ∙ ap one (waits2 .ensures), one-if3 .ensures .0 ∙ ap one (waits3 .ensures), one-if4 .ensures .0 ∙ ap one (waits4 .ensures)))
+    (omega arith, omega (arith, from-four (start .args .slots .now) (start .args .flip) (start .args .p .0) (start .args .i) (start .pre .0), one-if .ensures .0 ∙ ap oneIf (waits .ensures), one-if2 .ensures .0 ∙ ap oneIf (waits2 .ensures), one-if3 .ensures .0 ∙ ap oneIf (waits3 .ensures), one-if4 .ensures .0 ∙ ap oneIf (waits4 .ensures)))
 
 pub waiting-of-four-spec : {M : Type 1} → statement M
 waiting-of-four-spec =

@@ -13,7 +13,7 @@ returns c =
     let if1 = c .before .before .before .if1 in
     let if2 = c .before .if2 in
     let zero-words = c .zero-words in
-    unscanned-case (start .args .desk .now) (masks-at .result) (start .args .t) (start .args .r) (masks-at .ensures) (omega arith) (if1 .taken) (if2 .taken) (zero-words .ensures)
+    unscanned-case (start .args .desk .now) (masks-at .result) (start .args .slots) (start .args .entries) (masks-at .ensures) (omega arith) (if1 .taken) (if2 .taken) (zero-words .ensures)
 
 groups-sound-requires : tie.Need-groups-sound-requires
 unfolding NOT
@@ -27,9 +27,9 @@ returns-2 c =
     let start = c .before .before .before .before .before .before .before .before .before in
     let masks-at = c .before .before .before .before .before .before .before .masks-at in
     let if1 = c .before .before .before .before .if1 in
-    let get32 = c .before .get32 in
+    let last-ticket = c .before .last-ticket in
     let groups-sound = c .groups-sound in
-    scanned-case (start .args .desk .now) (masks-at .result) (start .args .t) (start .args .r) (masks-at .ensures) (omega arith) (if1 .taken) (get32 .ensures) (groups-sound .ensures)
+    scanned-case (start .args .desk .now) (masks-at .result) (start .args .slots) (start .args .entries) (masks-at .ensures) (omega arith) (if1 .taken) (last-ticket .ensures) (groups-sound .ensures)
 
 returns-3 : tie.Need-returns-3
 unfolding NOT
@@ -37,7 +37,7 @@ returns-3 c =
     let start = c .before .before .before .before .before in
     let masks-at = c .before .before .before .masks-at in
     let if1 = c .if1 in
-    clash-case (start .args .desk .now) (masks-at .result) (start .args .t) (start .args .r) (masks-at .ensures) (omega arith) (omega arith) (if1 .left)
+    clash-case (start .args .desk .now) (masks-at .result) (start .args .slots) (start .args .entries) (masks-at .ensures) (omega arith) (omega arith) (if1 .left)
 
 pub cards-sound-spec : {M : Type 1} → statement M
 cards-sound-spec =

@@ -9,10 +9,10 @@ use Rattle.desk.proofs.cards.eight_busy_sound.Statement.{statement}
 use Rattle.desk.proofs.cards.eight_busy_sound.Tie as tie
 
 abbrev Inv-loop : tie.InvT-loop
-Inv-loop desk p last t r local sound₀ i₀ sound i = (i ≤ 8) × (sound ≡ every (busyAt desk local t r last p) 0 i)
+Inv-loop desk limits p local sound₀ i₀ sound i = (i ≤ 8) × (sound ≡ every (busyAt desk local (limits .slots) (limits .entries) (limits .last .0) p) 0 i)
 
 abbrev μ-loop : tie.MeasureT-loop
-μ-loop desk p last t r local sound₀ i₀ sound i = 8 - i
+μ-loop desk limits p local sound₀ i₀ sound i = 8 - i
 
 loop-holds : tie.Need-loop-holds Inv-loop μ-loop
 unfolding every
@@ -25,7 +25,7 @@ loop-again c =
     let card-at = c .before .before .card-at in
     let has-bit = c .before .has-bit in
     let busy-sound = c .busy-sound in
-    (omega arith, busy-turn (start .args .desk .now) (start .args .m .local / 2 ^ start .args .p % 256) (start .args .t) (start .args .r) (start .args .last) (start .args .p) (loop .i) (loop .inv .1) (card-at .ensures) (has-bit .ensures) (busy-sound .ensures))
+    (omega arith, busy-turn (start .args .desk .now) (start .args .m .local / 2 ^ start .args .p % 256) (start .args .limits .slots) (start .args .limits .entries) (start .args .limits .last .0) (start .args .p) (loop .i) (loop .inv .1) (card-at .ensures) (has-bit .ensures) (busy-sound .ensures))
 
 returns : tie.Need-returns Inv-loop μ-loop
 returns c =
@@ -33,8 +33,8 @@ returns c =
     let loop = c .before .loop in
     let e : loop .i ≡ 8 = omega arith in
     loop .inv .1
-    ∙ ap (λ (k : ℕ). every (busyAt (start .args .desk .now) (start .args .m .local / 2 ^ start .args .p % 256) (start .args .t) (start .args .r) (start .args .last) (start .args .p)) 0 k) e
-    ∙ eight-busy-case (start .args .desk .now) (start .args .m) (start .args .t) (start .args .r) (start .args .last) (start .args .p) (start .pre .3)
+    ∙ ap (λ (k : ℕ). every (busyAt (start .args .desk .now) (start .args .m .local / 2 ^ start .args .p % 256) (start .args .limits .slots) (start .args .limits .entries) (start .args .limits .last .0) (start .args .p)) 0 k) e
+    ∙ eight-busy-case (start .args .desk .now) (start .args .m) (start .args .limits .slots) (start .args .limits .entries) (start .args .limits .last .0) (start .args .p) (start .pre .3)
 
 pub eight-busy-sound-spec : {M : Type 1} → statement M
 eight-busy-sound-spec =

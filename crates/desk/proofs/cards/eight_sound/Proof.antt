@@ -11,29 +11,29 @@ use Rattle.desk.proofs.cards.eight_sound.Statement.{statement}
 use Rattle.desk.proofs.cards.eight_sound.Tie as tie
 
 abbrev Inv-loop : tie.InvT-loop
-Inv-loop desk m g last t r p sound₀ i₀ sound i = (p ≤ i) × (i ≤ p + 8) × (sound ≡ every (cardHolds desk (held m) t r last) p (i - p))
+Inv-loop desk m limits g p sound₀ i₀ sound i = (p ≤ i) × (i ≤ p + 8) × (sound ≡ every (cardHolds desk (held m) (limits .slots) (limits .entries) (limits .last .0)) p (i - p))
 
 abbrev μ-loop : tie.MeasureT-loop
-μ-loop desk m g last t r p sound₀ i₀ sound i = p + 8 - i
+μ-loop desk m limits g p sound₀ i₀ sound i = p + 8 - i
 
 returns : tie.Need-returns Inv-loop μ-loop
 returns c =
     let start = c .before .before .before .before in
     let if1 = c .before .if1 in
     let zero-words = c .zero-words in
-    eight-case (start .args .desk .now) (start .args .m) (start .args .t) (start .args .r) (start .args .last) (start .args .g * 8) (omega arith) (start .pre .3) (omega arith) (if1 .taken) (zero-words .ensures)
+    eight-case (start .args .desk .now) (start .args .m) (start .args .limits .slots) (start .args .limits .entries) (start .args .limits .last .0) (start .args .g * 8) (omega arith) (start .pre .3) (omega arith) (if1 .taken) (zero-words .ensures)
 
 loop-holds : tie.Need-loop-holds Inv-loop μ-loop
 loop-holds c =
     let start = c .before .before .before .before .before in
-    (search needs, search needs, every-start (cardHolds (start .args .desk .now) (held (start .args .m)) (start .args .t) (start .args .r) (start .args .last)) (start .args .g * 8) (start .args .g * 8))
+    (search needs, search needs, every-start (cardHolds (start .args .desk .now) (held (start .args .m)) (start .args .limits .slots) (start .args .limits .entries) (start .args .limits .last .0)) (start .args .g * 8) (start .args .g * 8))
 
 loop-again : tie.Need-loop-again Inv-loop μ-loop
 loop-again c =
     let start = c .before .before .before .before .before .before .before .before in
     let loop = c .before .before .loop in
     let card-sound = c .card-sound in
-    (omega arith, omega arith, every-step (cardHolds (start .args .desk .now) (held (start .args .m)) (start .args .t) (start .args .r) (start .args .last)) (start .args .g * 8) (loop .i) (loop .inv .0) (loop .inv .2) (card-sound .ensures))
+    (omega arith, omega arith, every-step (cardHolds (start .args .desk .now) (held (start .args .m)) (start .args .limits .slots) (start .args .limits .entries) (start .args .limits .last .0)) (start .args .g * 8) (loop .i) (loop .inv .0) (loop .inv .2) (card-sound .ensures))
 
 returns-2 : tie.Need-returns-2 Inv-loop μ-loop
 returns-2 c =
@@ -44,7 +44,7 @@ returns-3 : tie.Need-returns-3 Inv-loop μ-loop
 returns-3 c =
     let loop = c .before .loop in
     let start = c .before .before .before .before .before .before .before in
-    let e : loop .i - start .args .g * 8 ≡ 8 = omega arith in loop .inv .2 ∙ ap (λ (k : ℕ). every (cardHolds (start .args .desk .now) (held (start .args .m)) (start .args .t) (start .args .r) (start .args .last)) (start .args .g * 8) k) e
+    let e : loop .i - start .args .g * 8 ≡ 8 = omega arith in loop .inv .2 ∙ ap (λ (k : ℕ). every (cardHolds (start .args .desk .now) (held (start .args .m)) (start .args .limits .slots) (start .args .limits .entries) (start .args .limits .last .0)) (start .args .g * 8) k) e
 
 pub eight-sound-spec : {M : Type 1} → statement M
 eight-sound-spec =

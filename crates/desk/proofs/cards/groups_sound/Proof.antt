@@ -10,10 +10,10 @@ use Rattle.desk.proofs.cards.groups_sound.Statement.{statement}
 use Rattle.desk.proofs.cards.groups_sound.Tie as tie
 
 abbrev Inv-loop : tie.InvT-loop
-Inv-loop desk m last t r sound₀ g₀ sound g = (g ≤ 8) × (sound ≡ every (cardHolds desk (held m) t r last) 0 (g * 8))
+Inv-loop desk m limits sound₀ g₀ sound g = (g ≤ 8) × (sound ≡ every (cardHolds desk (held m) (limits .slots) (limits .entries) (limits .last .0)) 0 (g * 8))
 
 abbrev μ-loop : tie.MeasureT-loop
-μ-loop desk m last t r sound₀ g₀ sound g = 8 - g
+μ-loop desk m limits sound₀ g₀ sound g = 8 - g
 
 loop-holds : tie.Need-loop-holds Inv-loop μ-loop
 unfolding every
@@ -24,13 +24,13 @@ loop-again c =
     let start = c .before .before .before .before in
     let loop = c .before .before .loop in
     let eight-sound = c .eight-sound in
-    (omega arith, every-eight (cardHolds (start .args .desk .now) (held (start .args .m)) (start .args .t) (start .args .r) (start .args .last)) (loop .g) (loop .inv .1) (eight-sound .ensures))
+    (omega arith, every-eight (cardHolds (start .args .desk .now) (held (start .args .m)) (start .args .limits .slots) (start .args .limits .entries) (start .args .limits .last .0)) (loop .g) (loop .inv .1) (eight-sound .ensures))
 
 returns : tie.Need-returns Inv-loop μ-loop
 returns c =
     let loop = c .before .loop in
     let start = c .before .before .before in
-    let e : loop .g ≡ 8 = omega arith in loop .inv .1 ∙ ap (λ (k : ℕ). every (cardHolds (start .args .desk .now) (held (start .args .m)) (start .args .t) (start .args .r) (start .args .last)) 0 (k * 8)) e
+    let e : loop .g ≡ 8 = omega arith in loop .inv .1 ∙ ap (λ (k : ℕ). every (cardHolds (start .args .desk .now) (held (start .args .m)) (start .args .limits .slots) (start .args .limits .entries) (start .args .limits .last .0)) 0 (k * 8)) e
 
 pub groups-sound-spec : {M : Type 1} → statement M
 groups-sound-spec =

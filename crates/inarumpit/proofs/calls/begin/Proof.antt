@@ -1,74 +1,52 @@
 use mathlib.Core.Path.{_≡_, refl, sym, ap, _∙_}
 use native.Mathlib.Omega.{arith}
-use Rattle.rules.specs.Refusals.{Call, ownRight, looksAtDesk, refusedAs, outOf}
 use Rattle.rules.specs.Answers.{beginSays}
-use Rattle.laws.proofs.Replies.{by-1, by-2, by-lengths, by-rule, by-opening}
+use Rattle.rules.specs.Refusals.{Call, ownRight, looksAtDesk, refusedAs, outOf}
 use Rattle.desk.proofs.Says.{n-most}
+use Rattle.inarumpit.proofs.Replies.{by-refusal, by-lengths, by-sound, by-rule}
 use borrow.Author.Needs.{needs}
 use Rattle.inarumpit.proofs.calls.begin.Statement.{statement}
 use Rattle.inarumpit.proofs.calls.begin.Tie as tie
 
-is-sound-requires : tie.Need-is-sound-requires
-unfolding ownRight
-is-sound-requires c κs =
-    let start = c .before .before .before .before .before .before in
-    let lengths-right = c .before .before .lengths-right in
-    let if1 = c .before .if1 in
-    let z = by-lengths (start .args .desk .now) (start .args .table .now) (start .args .shelf .now) Call.begin (lengths-right .ensures) (if1 .taken) in (z .desk, omega arith)
-
 begin-requires : tie.Need-begin-requires
-unfolding ownRight
+unfolding ownRight looksAtDesk
 begin-requires c κs =
-    let start = c .before .before .before .before .before .before .before .before .before in
-    let lengths-right = c .before .before .before .before .before .lengths-right in
-    let if1 = c .before .before .before .before .if1 in
-    let is-sound = c .before .before .is-sound in
-    let if2 = c .before .if2 in
-    let z = by-lengths (start .args .desk .now) (start .args .table .now) (start .args .shelf .now) Call.begin (lengths-right .ensures) (if1 .taken) in let ok = sym (is-sound .ensures) ∙ if2 .taken in (z .desk, n-most (start .args .desk .now) (start .args .table .now) (start .args .shelf .now) ok)
+    let start = c .before .before .before .before .before .before .before in
+    let way-in = c .before .before .way-in in
+    let if1 = c .before .if1 in
+    let z = by-lengths (start .args .desk .now) (start .args .table .now) (start .args .shelf .now) Call.begin (way-in .ensures) (if1 .taken) in
+    let ok = by-sound (start .args .desk .now) (start .args .table .now) (start .args .shelf .now) Call.begin (way-in .ensures) (if1 .taken) refl in
+    (z .desk, n-most (start .args .desk .now) (start .args .table .now) (start .args .shelf .now) ok)
 
 returns : tie.Need-returns
-unfolding beginSays ownRight
+unfolding beginSays ownRight looksAtDesk
 returns c =
-    let start = c .before .before .before .before .before .before .before .before .before .before .before .before in
-    let lengths-right = c .before .before .before .before .before .before .before .before .lengths-right in
-    let if1 = c .before .before .before .before .before .before .before .if1 in
-    let slice-known = c .before .before .before .before .before .before .before .before .before .before .before .slice-known in
-    let shared-slice-known = c .before .before .before .before .before .before .before .before .before .before .shared-slice-known in
-    let shared-slice-known2 = c .before .before .before .before .before .before .before .before .before .shared-slice-known2 in
+    let start = c .before .before .before .before .before .before .before .before .before .before in
+    let way-in = c .before .before .before .before .before .way-in in
+    let if1 = c .before .before .before .before .if1 in
+    let slice-known = c .before .before .before .before .before .before .before .before .before .slice-known in
+    let shared-slice-known = c .before .before .before .before .before .before .before .before .shared-slice-known in
+    let shared-slice-known2 = c .before .before .before .before .before .before .before .shared-slice-known2 in
     let desk = c .before .desk in
     let slice-known2 = c .slice-known2 in
     let begin = c .before .before .begin in
-    let is-sound = c .before .before .before .before .before .is-sound in
-    let if2 = c .before .before .before .before .if2 in
-    by-rule (start .args .desk .now) (start .args .table .now) (start .args .shelf .now) Call.begin (lengths-right .ensures) (if1 .taken) (λ j. omega (arith, slice-known .given j)) (λ j. omega (arith, shared-slice-known .given j)) (λ j. omega (arith, shared-slice-known2 .given j)) _ _ _ (desk .given) refl refl (λ j. omega (arith, slice-known2 .given j)) (λ j. omega (arith, shared-slice-known .given j)) (λ j. omega (arith, shared-slice-known2 .given j)) (begin .ensures (start .args .table .now) (start .args .shelf .now)) (is-sound .ensures) (if2 .taken)
+    by-rule (start .args .desk .now) (start .args .table .now) (start .args .shelf .now) Call.begin (way-in .ensures) (if1 .taken) (λ j. omega (arith, slice-known .given j)) (λ j. omega (arith, shared-slice-known .given j)) (λ j. omega (arith, shared-slice-known2 .given j)) _ _ _ (desk .given) refl refl (λ j. omega (arith, slice-known2 .given j)) (λ j. omega (arith, shared-slice-known .given j)) (λ j. omega (arith, shared-slice-known2 .given j)) (begin .ensures (start .args .table .now) (start .args .shelf .now))
 
 returns-2 : tie.Need-returns-2
 unfolding beginSays ownRight looksAtDesk refusedAs outOf
 returns-2 c =
-    let start = c .before .before .before .before .before .before .before .before in
-    let lengths-right = c .before .before .before .before .lengths-right in
-    let if1 = c .before .before .before .if1 in
-    let is-sound = c .before .is-sound in
-    let if2 = c .if2 in
-    by-2 (start .args .desk .now) (start .args .table .now) (start .args .shelf .now) Call.begin (lengths-right .ensures) (if1 .taken) (is-sound .ensures) refl (if2 .left)
-
-returns-3 : tie.Need-returns-3
-unfolding beginSays ownRight refusedAs outOf
-returns-3 c =
-    let start = c .before .before .before .before .before in
-    let lengths-right = c .before .lengths-right in
+    let start = c .before .before .before .before .before .before in
+    let way-in = c .before .way-in in
     let if1 = c .if1 in
-    by-1 (start .args .desk .now) (start .args .table .now) (start .args .shelf .now) Call.begin (lengths-right .ensures) (if1 .left)
+    by-refusal (start .args .desk .now) (start .args .table .now) (start .args .shelf .now) Call.begin (way-in .ensures) (if1 .left)
 
 pub begin-spec : {M : Type 1} → statement M
 begin-spec =
     tie.close
     (tie.spec
     (λ c κs. search needs)
-    is-sound-requires
     begin-requires
     (λ c. search needs)
     returns
     (λ c. search needs)
-    returns-2
-    returns-3)
+    returns-2)

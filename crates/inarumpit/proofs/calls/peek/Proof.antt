@@ -1,74 +1,49 @@
 use mathlib.Core.Path.{_≡_, refl, sym, ap, _∙_}
 use native.Mathlib.Omega.{arith}
-use Rattle.rules.specs.Refusals.{Call, ownRight, looksAtDesk, refusedAs, outOf}
-use Rattle.laws.proofs.Replies.{by-1, by-2, by-lengths, by-rule}
+use Rattle.rules.specs.Refusals.{Call, Reading, ownRight, looksAtDesk, refusedAs, outOf}
+use Rattle.inarumpit.proofs.Replies.{by-refusal, by-lengths, by-sound, by-rule}
 use borrow.Author.Needs.{needs}
 use Rattle.inarumpit.proofs.calls.peek.Statement.{statement}
 use Rattle.inarumpit.proofs.calls.peek.Tie as tie
 
-is-sound-requires : tie.Need-is-sound-requires
-unfolding ownRight
-is-sound-requires c κs =
-    let start = c .before .before .before .before .before in
-    let lengths-right = c .before .lengths-right in
-    let if1 = c .if1 in
-    let z = by-lengths (start .args .desk .now) (start .args .table .now) (start .args .shelf .now) (Call.peek (start .args .t .0)) (lengths-right .ensures) (if1 .taken) in (z .desk, omega arith)
-
 peek-requires : tie.Need-peek-requires
-unfolding ownRight
+unfolding ownRight looksAtDesk
 peek-requires c κs =
-    let start = c .before .before .before .before .before .before .before in
-    let lengths-right = c .before .before .before .lengths-right in
-    let if1 = c .before .before .if1 in
-    let is-sound = c .before .is-sound in
-    let if2 = c .if2 in
-    let z = by-lengths (start .args .desk .now) (start .args .table .now) (start .args .shelf .now) (Call.peek (start .args .t .0)) (lengths-right .ensures) (if1 .taken) in (z .desk, omega arith, sym (is-sound .ensures) ∙ if2 .taken)
+    let start = c .before .before .before .before .before in
+    let way-in = c .before .way-in in
+    let if1 = c .if1 in
+    let z = by-lengths (start .args .desk .now) (start .args .table .now) (start .args .shelf .now) (Call.reading (Reading.peek (start .args .ticket .0))) (way-in .ensures) (if1 .taken) in
+    let ok = by-sound (start .args .desk .now) (start .args .table .now) (start .args .shelf .now) (Call.reading (Reading.peek (start .args .ticket .0))) (way-in .ensures) (if1 .taken) refl in
+    (z .desk, omega arith, ok)
 
 returns : tie.Need-returns
-unfolding ownRight
+unfolding ownRight looksAtDesk
 returns c =
-    let start = c .before .before .before .before .before .before .before .before in
-    let lengths-right = c .before .before .before .before .lengths-right in
-    let if1 = c .before .before .before .if1 in
-    let shared-slice-known = c .before .before .before .before .before .before .before .shared-slice-known in
-    let shared-slice-known2 = c .before .before .before .before .before .before .shared-slice-known2 in
-    let shared-slice-known3 = c .before .before .before .before .before .shared-slice-known3 in
+    let start = c .before .before .before .before .before .before in
+    let way-in = c .before .before .way-in in
+    let if1 = c .before .if1 in
+    let shared-slice-known = c .before .before .before .before .before .shared-slice-known in
+    let shared-slice-known2 = c .before .before .before .before .shared-slice-known2 in
+    let shared-slice-known3 = c .before .before .before .shared-slice-known3 in
     let peek = c .peek in
-    let is-sound = c .before .before .is-sound in
-    let if2 = c .before .if2 in
-    by-rule (start .args .desk .now) (start .args .table .now) (start .args .shelf .now) (Call.peek (start .args .t .0)) (lengths-right .ensures) (if1 .taken) (λ j. omega (arith, shared-slice-known .given j)) (λ j. omega (arith, shared-slice-known2 .given j)) (λ j. omega (arith, shared-slice-known3 .given j)) _ _ _ refl refl refl (λ j. omega (arith, shared-slice-known .given j)) (λ j. omega (arith, shared-slice-known2 .given j)) (λ j. omega (arith, shared-slice-known3 .given j)) (peek .ensures) (is-sound .ensures) (if2 .taken)
+    (by-rule (start .args .desk .now) (start .args .table .now) (start .args .shelf .now) (Call.reading (Reading.peek (start .args .ticket .0))) (way-in .ensures) (if1 .taken) (λ j. omega (arith, shared-slice-known .given j)) (λ j. omega (arith, shared-slice-known2 .given j)) (λ j. omega (arith, shared-slice-known3 .given j)) _ _ _ refl refl refl (λ j. omega (arith, shared-slice-known .given j)) (λ j. omega (arith, shared-slice-known2 .given j)) (λ j. omega (arith, shared-slice-known3 .given j)) (peek .ensures .0), peek .ensures .1)
 
 returns-2 : tie.Need-returns-2
 unfolding ownRight looksAtDesk refusedAs outOf
 returns-2 c =
-    let start = c .before .before .before .before .before .before .before .before in
-    let lengths-right = c .before .before .before .before .lengths-right in
-    let if1 = c .before .before .before .if1 in
-    let is-sound = c .before .before .is-sound in
-    let if2 = c .before .if2 in
-    by-2 (start .args .desk .now) (start .args .table .now) (start .args .shelf .now) (Call.peek (start .args .t .0)) (lengths-right .ensures) (if1 .taken) (is-sound .ensures) refl (if2 .left)
-
-returns-3 : tie.Need-returns-3
-unfolding ownRight refusedAs outOf
-returns-3 c =
     let start = c .before .before .before .before .before .before in
-    let lengths-right = c .before .before .lengths-right in
+    let way-in = c .before .before .way-in in
     let if1 = c .before .if1 in
-    by-1 (start .args .desk .now) (start .args .table .now) (start .args .shelf .now) (Call.peek (start .args .t .0)) (lengths-right .ensures) (if1 .left)
+    (by-refusal (start .args .desk .now) (start .args .table .now) (start .args .shelf .now) (Call.reading (Reading.peek (start .args .ticket .0))) (way-in .ensures) (if1 .left), λ n. absurd (n refl))
 
 pub peek-spec : {M : Type 1} → statement M
 peek-spec =
     tie.close
     (tie.spec
     (λ c κs. search needs)
-    is-sound-requires
     peek-requires
     returns
     (λ c. search needs)
     (λ c. search needs)
     (λ c. search needs)
-    returns-2
-    (λ c. search needs)
-    (λ c. search needs)
-    (λ c. search needs)
-    returns-3)
+    returns-2)

@@ -1,11 +1,11 @@
 use mathlib.Core.Path.{refl}
-use Rattle.rules.specs.Masks.{begun, cleared, NOT}
+use Rattle.rules.specs.Masks.{walkBegun, cleared, NOT}
 use borrow.Author.Needs.{needs}
 use Rattle.masks.proofs.Masks.begun.Statement.{statement}
 use Rattle.masks.proofs.Masks.begun.Tie as tie
 
 returns : tie.Need-returns
-unfolding begun cleared NOT
+unfolding walkBegun cleared NOT
 returns c =
     let scan-mask = c .before .before .scan-mask in
     rw (scan-mask .ensures) refl

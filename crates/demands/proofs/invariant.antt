@@ -1,0 +1,14 @@
+pub mod Marks
+pub mod Invariant
+pub mod ChangesKeep
+pub mod BeginKeeps
+pub mod GoesOn
+pub mod TableLooks
+pub mod ShelfLooks
+pub mod FinishKeeps
+pub mod NextKeeps
+pub mod ReasonsAre
+pub mod Positions
+pub mod Steps
+pub mod Turns
+pub mod Counts

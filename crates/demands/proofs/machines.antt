@@ -1,0 +1,9 @@
+pub mod AnyMachine
+pub mod Refused
+pub mod Finishing
+pub mod SameAnswers
+pub mod OneHistory
+pub mod Small
+pub mod NoSmaller
+pub mod SameBytes
+pub mod Lowest

@@ -1,0 +1,14 @@
+pub mod Rising
+pub mod Fits
+pub mod Lives
+pub mod DemandTwo
+pub mod DemandThree
+pub mod MasksMove
+pub mod Spelt
+pub mod TableOneMoves
+pub mod TableOne
+pub mod RuleOfNext
+pub mod DemandOne
+pub mod Packing
+pub mod PeekIsNext
+pub mod Host

@@ -1,0 +1,4 @@
+pub mod Walked
+pub mod Seek
+pub mod HandOut
+pub mod Moves

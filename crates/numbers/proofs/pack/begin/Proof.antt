@@ -1,0 +1,31 @@
+use mathlib.Core.Path.{_≡_, refl, sym, ap, _∙_}
+use native.Mathlib.Omega.{arith}
+use Rattle.rules.specs.Answers.{packed, number, value, beginSays}
+use borrow.Author.Needs.{needs}
+use Rattle.numbers.proofs.pack.begin.Statement.{statement}
+use Rattle.numbers.proofs.pack.begin.Tie as tie
+
+returns : tie.Need-returns
+unfolding packed number value beginSays
+returns c =
+    let a = c .before .before .a in
+    rw (a .given .1) (omega arith)
+
+returns-2 : tie.Need-returns-2
+unfolding packed number value beginSays
+returns-2 c =
+    let a2 = c .before .a2 in
+    rw (a2 .given .1) (omega arith)
+
+pub begin-spec : {M : Type 1} → statement M
+begin-spec =
+    tie.close
+    (tie.spec
+    (λ c. search needs)
+    (λ c. search needs)
+    (λ c. search needs)
+    (λ c. search needs)
+    (λ c. search needs)
+    (λ c. search needs)
+    returns
+    returns-2)

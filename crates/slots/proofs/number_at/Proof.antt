@@ -1,0 +1,14 @@
+use borrow.Author.Needs.{needs}
+use Rattle.slots.proofs.number_at.Statement.{statement}
+use Rattle.slots.proofs.number_at.Tie as tie
+
+returns : tie.Need-returns
+returns c = cc
+
+pub number-at-spec : {M : Type 1} → statement M
+number-at-spec =
+    tie.close
+    (tie.spec
+    (λ c κs. search needs)
+    (λ c κs. search needs)
+    returns)

@@ -1,0 +1,10 @@
+pub mod Sizes
+pub mod Codec
+pub mod FirstOf
+pub mod HighBits
+pub mod SoundDesk
+pub mod OnePosition
+pub mod ChangesFine
+pub mod LooksFine
+pub mod Spelling
+pub mod Stays

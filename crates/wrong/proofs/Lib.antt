@@ -1,0 +1,16 @@
+pub mod Caught
+pub mod LeavesEveryByte
+pub mod NoScans
+pub mod InUse
+pub mod ShelvesOnce
+pub mod BothAccepted
+pub mod BothHanded
+pub mod HandsOut
+pub mod ShelvesFirstOnly
+pub mod FirstChangeOnly
+pub mod OldStore
+pub mod Alike
+pub mod AlikeLooks
+pub mod AlikeCalls
+pub mod AlikeLives
+pub mod ClearAtBegin
