@@ -20,15 +20,20 @@ void clock_from(const char *page)
     counted = mapped;
 }
 
+bool clock_counts(void)
+{
+    return counted != NULL;
+}
+
 const char *clock_unit(void)
 {
-    return counted != NULL ? "instructions" : "nanoseconds";
+    return clock_counts() ? "instructions" : "nanoseconds";
 }
 
 uint64_t clock_now(void)
 {
     struct timespec t;
-    if (counted != NULL)
+    if (clock_counts())
         return *counted;
     clock_gettime(CLOCK_MONOTONIC, &t);
     return (uint64_t)t.tv_sec * 1000000000 + (uint64_t)t.tv_nsec;

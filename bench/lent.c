@@ -4,9 +4,6 @@
 
 #include <string.h>
 
-#define TEXT(x) #x
-#define TEXT_OF(x) TEXT(x)
-
 enum { DESK = 1088, SLOT = 64, OUT = 56 };
 
 /* R = T; as it stands, and as it stood after the opening. */

@@ -105,4 +105,6 @@ static void closes(void)
     remove(lock_path);
 }
 
-const struct store lmdb = { "LMDB", UINT32_MAX, opens, modify, begin, draw, drop, kept, closes };
+#define VERSION TEXT_OF(MDB_VERSION_MAJOR) "." TEXT_OF(MDB_VERSION_MINOR) "." TEXT_OF(MDB_VERSION_PATCH)
+
+const struct store lmdb = { "LMDB " VERSION, UINT32_MAX, opens, modify, begin, draw, drop, kept, closes };

@@ -1,4 +1,4 @@
-# figures.csv as a picture: what one modify costs as T grows, one panel for each unit, both axes by powers.
+# peers.csv as a picture: what one modify costs as T grows, one panel for each unit, both axes by powers.
 BEGIN {
     FS = ","
     WIDE = 420; HIGH = 300; LEFT = 70; TOP = 60
@@ -23,11 +23,28 @@ function y(v) { return TOP + HIGH - (log10(v) - low) / (high - low) * HIGH }
 function text(at_x, at_y, anchor, what, fill) {
     printf "<text x=\"%.1f\" y=\"%.1f\" text-anchor=\"%s\" fill=\"%s\">%s</text>\n", at_x, at_y, anchor, fill, what
 }
-function grouped(v) {
-    return v < 1000 ? v : int(v / 1000) "," substr(v, length(v) - 2)
-}
 function thousands(v) {
     return v >= 1000000 ? v / 1000000 " M" : v >= 1000 ? v / 1000 " k" : v
+}
+# At the ends of the lines, from the top down, none less than a line below the one before.
+function write_labels(  k, top, below) {
+    for (below = 0; labels > 0; labels--) {
+        top = 1
+        for (k = 2; k <= labels; k++)
+            if (label_at[k] < label_at[top])
+                top = k
+        if (label_at[top] < below)
+            label_at[top] = below
+        text(x(16384) + 8, label_at[top], "start", label[top] in shown ? shown[label[top]] : label[top], coloured(label[top]))
+        below = label_at[top] + 15
+        label[top] = label[labels]
+        label_at[top] = label_at[labels]
+    }
+}
+# A store's colour is that of the first word of its name; its version follows.
+function coloured(store) {
+    sub(/ .*/, "", store)
+    return colour[store]
 }
 END {
     width = U * (WIDE + LEFT + 90) + 20; height = TOP + HIGH + 40
@@ -46,7 +63,7 @@ END {
             text(x(32) - 8, y(10 ^ e) + 4, "end", thousands(10 ^ e), "#555")
         }
         for (t = 64; t <= 16384; t *= 16)
-            text(x(t), TOP + HIGH + 20, "middle", "T = " grouped(t), "#555")
+            text(x(t), TOP + HIGH + 20, "middle", "T = " number(t), "#555")
         for (k = 0; k < L; k++) {
             split(lines[k], part, ",")
             if (part[1] != n)
@@ -55,14 +72,17 @@ END {
             path = ""
             for (i = 1; i <= count; i++) {
                 split(point[i], at, ":")
-                printf "<circle cx=\"%.1f\" cy=\"%.1f\" r=\"3\" fill=\"%s\"/>\n", x(at[1]), y(at[2]), colour[part[2]]
+                printf "<circle cx=\"%.1f\" cy=\"%.1f\" r=\"3\" fill=\"%s\"/>\n", x(at[1]), y(at[2]), coloured(part[2])
                 path = path sprintf("%s%.1f %.1f", i == 1 ? "M" : "L", x(at[1]), y(at[2]))
             }
             printf "<path d=\"%s\" fill=\"none\" stroke=\"%s\" stroke-width=\"2\" stroke-dasharray=\"%s\"/>\n", \
-                path, colour[part[2]], part[3]
-            if (part[3] == "")
-                text(x(16384) + 6, y(at[2]) + 4, "start", part[2] in shown ? shown[part[2]] : part[2], colour[part[2]])
+                path, coloured(part[2]), part[3]
+            if (part[3] == "") {
+                label[++labels] = part[2]
+                label_at[labels] = y(at[2]) + 4
+            }
         }
+        write_labels()
     }
     print "</svg>"
 }

@@ -117,4 +117,4 @@ static void closes(void)
     remove(path);
 }
 
-const struct store sqlite = { "SQLite", UINT32_MAX, opens, modify, begin, draw, drop, kept, closes };
+const struct store sqlite = { "SQLite " SQLITE_VERSION, UINT32_MAX, opens, modify, begin, draw, drop, kept, closes };

@@ -5,6 +5,9 @@
 #include <stdbool.h>
 #include <stdint.h>
 
+#define TEXT(x) #x
+#define TEXT_OF(x) TEXT(x)
+
 enum { BODY = 52, OWN = 5, SCANS = 8, MOST_SLOTS = 16384 };
 
 /* The sum over the records handed out of number x byte OWN of the body, to compare lists by. */

@@ -12,6 +12,8 @@
 #include "inarumpit.h"
 #include "maskless.h"
 #include "pages.h"
+#include "progress.h"
+#include "readings.h"
 #include "shrink.h"
 #include "store.h"
 
@@ -77,6 +79,40 @@ static uint64_t make(const struct side *side, const struct call *c)
 #undef EACH
 }
 
+/* The library's buffers in a struct, as the call says them. */
+static struct inarumpit_store in_struct(const struct call *c)
+{
+    struct inarumpit_store store = {
+        .desk = buffer_of(&library, c, DESK), .desk_len = len_of(&library, c, DESK),
+        .table = buffer_of(&library, c, TABLE), .table_len = len_of(&library, c, TABLE),
+        .shelf = buffer_of(&library, c, SHELF), .shelf_len = len_of(&library, c, SHELF)
+    };
+    return store;
+}
+
+/* Whether the calls on a struct can say it: body and hand-out buffer have their own length, or are NULL. */
+static bool fits_struct(const struct call *c)
+{
+    return (c->len[BODY] == AS_IT_IS || c->null >> BODY & 1) && (c->len[OUT] == AS_IT_IS || c->null >> OUT & 1);
+}
+
+static uint64_t make_on_struct(const struct call *c)
+{
+    const struct inarumpit_store store = in_struct(c);
+    switch (c->which) {
+    case OPEN: return inarumpit_store_open(&store, c->number);
+    case INSERT: return inarumpit_store_insert(&store, c->number, buffer_of(&library, c, BODY));
+    case MODIFY: return inarumpit_store_modify(&store, c->number, buffer_of(&library, c, BODY));
+    case DELETE: return inarumpit_store_delete(&store, c->number);
+    case BEGIN: return inarumpit_store_begin(&store);
+    case NEXT: return inarumpit_store_next(&store, c->number, c->budget, buffer_of(&library, c, OUT));
+    case TALLY: return inarumpit_store_tally(&store);
+    case OWED: return inarumpit_store_owed(&store, c->number);
+    case POKE: break;
+    }
+    return 0;
+}
+
 /* What the host itself writes: its pokes, the body it lends, and a hand-out buffer that reads otherwise each time. */
 static void prepare(struct side *side, const struct call *c, size_t turn)
 {
@@ -125,13 +161,26 @@ static void catch_signals(void)
         sigaction(numbers[i], &action, NULL);
 }
 
-/* Makes the call; 0, or the signal that ended it. */
-static int make_caught(const struct side *side, const struct call *c, uint64_t *returned)
+/* Makes the call, on a side or through the library's struct; 0, or the signal that ended it. */
+static int make_caught(const struct side *side, const struct call *c, bool on_struct, uint64_t *returned)
 {
     int number = sigsetjmp(before_call, 0);
     if (number == 0) {
         in_call = 1;
-        *returned = make(side, c);
+        *returned = on_struct ? make_on_struct(c) : make(side, c);
+    }
+    in_call = 0;
+    return number;
+}
+
+/* Reads the library's buffers by the header; 0, or the signal that ended it. */
+static int read_caught(const struct call *c, size_t turn, uint64_t returned, const char **differs)
+{
+    const struct inarumpit_store store = in_struct(c);
+    int number = sigsetjmp(before_call, 0);
+    if (number == 0) {
+        in_call = 1;
+        *differs = readings_differ(&store, c->number, (uint32_t)turn, returned);
     }
     in_call = 0;
     return number;
@@ -175,10 +224,10 @@ static const char *run(const struct call *c, size_t turn, bool all_before, uint6
     uint64_t ours = 0, theirs = 0;
     prepare(&library, c, turn);
     prepare(&second, c, turn);
-    int number = make_caught(&second, c, &theirs);
+    int number = make_caught(&second, c, false, &theirs);
     if (number)
         return faulted("the second program", number);
-    number = make_caught(&library, c, &ours);
+    number = make_caught(&library, c, turn % 2 == 1 && fits_struct(c), &ours);
     if (number)
         return faulted("the library", number);
     *returned = ours;
@@ -192,12 +241,15 @@ static const char *run(const struct call *c, size_t turn, bool all_before, uint6
         return why;
     }
     const char *differ = bytes_differ();
-    if (differ || !shape.clean)
-        return differ;
     size_t len[BUFFERS];
     for (int b = 0; b < BUFFERS; b++)
         len[b] = len_of(&library, c, (enum buffer)b);
-    return maskless_told(c, len, ours, library.buffer[OUT].at, library.buffer[SHELF].at);
+    if (!differ && shape.clean)
+        differ = maskless_told(c, len, ours, library.buffer[OUT].at, library.buffer[SHELF].at);
+    if (differ || c->which == POKE)
+        return differ;
+    number = read_caught(c, turn, ours, &differ);
+    return number ? faulted("the header", number) : differ;
 }
 
 static void start(void)
@@ -241,6 +293,7 @@ void play_start(const struct shape *from)
 {
     if (sequences_played == 0)
         catch_signals();
+    progress(calls_played, sequences_played);
     sequences_played++;
     shape = *from;
     played_count = 0;
@@ -258,6 +311,7 @@ uint64_t play(struct call c)
     calls_played += c.which != POKE;
     const char *differs = run(&c, played_count - 1, true, &returned);
     if (differs) {
+        progress_clear();
         printf("sequence %" PRIu64 " (%s), call %zu: %s: %s\n", sequences_played, shape.kind, played_count,
                call_name[c.which], differs);
         if (came_back)

@@ -11,6 +11,8 @@ void play_foreign(struct chance *chance);      /* sound desks, and slots, that n
 void play_history(struct chance *chance);      /* clean histories */
 void play_every_store(bool next_sizes);        /* all stores of the tiniest sizes, and of the next ones too */
 void play_largest(struct chance *chance);      /* T = 16,384 and R = 1,048,576, and one more of each */
+void play_header(struct chance *chance);       /* the header's functions at their bounds; tickets lost at a restart */
+void play_debug(void);                         /* the header in a debug build: overlaps stop a call */
 
 /* A body by chance, of few different ones, with a right kind. */
 void draw_body(struct chance *chance, uint8_t *body);

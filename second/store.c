@@ -18,27 +18,8 @@ enum {
 
 static const uint64_t ALL_ONES = UINT64_MAX;
 
-/* A table slot with its status mask, or a shelf entry with its remset status mask. Number 0: empty. */
-struct record {
-    uint32_t number;
-    uint8_t body[BODY_BYTES];
-    uint64_t mask;
-};
-
-struct card {
-    uint32_t ticket, place, handed, zero;
-};
-
 /* The store as decoded by the present call. */
-static struct {
-    uint32_t n, t, r, last;
-    uint64_t stable, active, local;
-    uint8_t rest[24];
-    struct card card[POSITIONS];
-    uint32_t slots, entries;
-    struct record table[MOST_SLOTS];
-    struct record shelf[MOST_ENTRIES];
-} s;
+static struct reading s;
 
 /* ---- bytes */
 
@@ -473,4 +454,20 @@ uint64_t CALL(owed)(SHOWN, uint32_t ticket)
         if (s.shelf[k].number != 0 && !bit_of(s.shelf[k].mask, position))
             count++;
     return packed(0, count);
+}
+
+/* ---- what it reads */
+
+const struct reading *CALL(reading)(SHOWN)
+{
+    static const uint8_t zeros[DESK_BYTES];
+    decode(desk_len == DESK_BYTES ? desk : zeros, table, whole_slots(table_len, MOST_SLOTS) ? table_len : 0,
+           shelf, whole_slots(shelf_len, MOST_ENTRIES) ? shelf_len : 0);
+    return &s;
+}
+
+const struct record *CALL(bearing)(uint32_t number)
+{
+    uint32_t slot = lowest(s.table, s.slots, number);
+    return number == 0 || slot == s.slots ? NULL : &s.table[slot];
 }

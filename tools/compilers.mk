@@ -20,11 +20,12 @@ HOST_CFLAGS := -std=c99 -Wall -Wextra -Werror -O2 -Iinclude
 
 .PHONY: archive host-tools
 
+## the library, proved and built
 archive: $(ARCHIVE)
 
 # Built again when anything that it is proved from has changed.
-$(ARCHIVE): crates.txt $(shell find crates -type f \( -name '*.rt' -o -name '*.antt' \)) | toolchain
-	@rt staticlib inarumpit
+$(ARCHIVE): crates.txt $(shell find crates -type f \( -name '*.rt' -o -name '*.antt' \))
+	@tools/archive $@
 
 host-tools:
 	@tools/need $(HOST_NEED)
