@@ -1,8 +1,11 @@
+pub mod Moment
 pub mod Marks
 pub mod Invariant
+pub mod ScanMoves
 pub mod ChangesKeep
 pub mod BeginKeeps
 pub mod GoesOn
+pub mod Looks
 pub mod TableLooks
 pub mod ShelfLooks
 pub mod FinishKeeps

@@ -26,10 +26,10 @@ pub record SameLengths (l m : Lent) : Type 0 where
 
 pub record Demand1 (M : Machine) : Type 0 where
   -- a line of document 01's table holds: the lowest is answered, and nothing moves
-  pub refuses : (l : Lent) (c : Call) (k : ℕ) → LentBytes l → Well c → firstOf (refusals l c) ≡ some k
-      → (M l c .answer ≡ refusedAs c k) × Untouched l c (M l c)
+  pub refuses : (l : Lent) (c : Call) (j : ℕ) → LentBytes l → Well c → firstOf (refusals l c) ≡ some j
+      → (M l c .answer ≡ refusedAs c j) × Untouched l c (M l c)
   -- none holds: no refusal is answered
-  pub accepts : (l : Lent) (c : Call) (k : ℕ) → LentBytes l → Well c → firstOf (refusals l c) ≡ none → M l c .answer ≡ Answer.refused k → ⊥
+  pub accepts : (l : Lent) (c : Call) (j : ℕ) → LentBytes l → Well c → firstOf (refusals l c) ≡ none → M l c .answer ≡ Answer.refused j → ⊥
   -- and every answer is of the call's own kind, and in its ranges
   pub fits : (l : Lent) (c : Call) → LentBytes l → Well c → Fits c (M l c .answer)
   -- "Every answer but 0 leaves the hand-out buffer untouched."

@@ -34,10 +34,10 @@ module _ (T R : ℕ) (s : Scan) (budget : ℕ) (out : List ℕ) where
   Goes (Answer.drew (Draw.paused looks)) = (looks ≡ budget) × (s .looks + looks < T + R)
   Goes (Answer.drew (Draw.finished looks left handed)) = ExactlyOnce s × (handed ≡ length (s .handed)) × (looks + left ≡ budget) × (s .looks + looks ≡ T + R)
   Goes (Answer.shown s) = ⊥
-  Goes (Answer.refused k) = ⊥
+  Goes (Answer.refused j) = ⊥
 
 abbrev pub Unrefused : Answer → Type 0
-Unrefused a = (k : ℕ) → a ≡ Answer.refused k → ⊥
+Unrefused a = (j : ℕ) → a ≡ Answer.refused j → ⊥
 
 -- what a call gives that no reason refuses; peek, tally and owed read only, and the rule of next says what they answer
 module _ (T R : ℕ) (h : History) where
@@ -54,7 +54,7 @@ module _ (T R : ℕ) (h : History) where
 
   -- refused exactly for the lowest reason that holds
   abbrev pub Answers : Option ℕ → Call → Answer → List ℕ → Type 0
-  Answers (some k) c a out = a ≡ refusedAs c k
+  Answers (some j) c a out = a ≡ refusedAs c j
   Answers none c a out = Fulfils c a out
 
 pub record Demand2 (M : Machine) : Type 0 where

@@ -10,7 +10,7 @@ use Rattle.rules.specs.Refusals.{Call, Reading}
 
 -- "Refusals 1 to 11"
 abbrev pub OfRefused : Answer → Type 0
-OfRefused a = (k : ℕ) × (1 ≤ k) × (k ≤ 11) × (a ≡ Answer.refused k)
+OfRefused a = (j : ℕ) × (1 ≤ j) × (j ≤ 11) × (a ≡ Answer.refused j)
 
 abbrev pub OfDone : Answer → Type 0
 OfDone a = a ≡ Answer.done

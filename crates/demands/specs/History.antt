@@ -140,14 +140,14 @@ onDone Answer.done x h = x
 onDone (Answer.begun t) x h = h
 onDone (Answer.drew d) x h = h
 onDone (Answer.shown s) x h = h
-onDone (Answer.refused k) x h = h
+onDone (Answer.refused j) x h = h
 
 abbrev pub onBegun : Answer → History → History
 onBegun Answer.done h = h
 onBegun (Answer.begun t) h = begins h t
 onBegun (Answer.drew d) h = h
 onBegun (Answer.shown s) h = h
-onBegun (Answer.refused k) h = h
+onBegun (Answer.refused j) h = h
 
 abbrev pub onNext : Answer → History → ℕ → List ℕ → History
 onNext Answer.done h t o = h
@@ -156,7 +156,7 @@ onNext (Answer.drew (Draw.inHand l b)) h t o = goes h t l (o ∷ [])
 onNext (Answer.drew (Draw.paused l)) h t o = goes h t l []
 onNext (Answer.drew (Draw.finished l b n)) h t o = finishes h t
 onNext (Answer.shown s) h t o = h
-onNext (Answer.refused k) h t o = h
+onNext (Answer.refused j) h t o = h
 
 abbrev pub changedBy : History → Change → History
 changedBy h (Change.insert k b) = inserted h k b
@@ -172,6 +172,13 @@ heard h (Call.reading q) a o = h
 
 -- ---- the whole list, newest first
 
+abbrev pub tellsFrom : History → List Event → History
+tellsFrom start [] = start
+tellsFrom start (e ∷ es) = heard (tellsFrom start es) (e .call) (e .answer) (e .out)
+
+-- at the opening: an empty store of which nothing has been told
+abbrev pub untold : History
+untold = history 0 [] [] 0 []
+
 unfoldable pub tells : List Event → History
-tells [] = history 0 [] [] 0 []
-tells (e ∷ es) = heard (tells es) (e .call) (e .answer) (e .out)
+tells es = tellsFrom untold es

@@ -13,13 +13,13 @@ use Rattle.rules.specs.Memory.{Lent}
 use Rattle.rules.specs.Refusals.{Call, Refusals, refusals}
 
 -- the number of a test that holds, where none of a lower number does; the order of the tests is no matter
-pub record Lowest (ts : Refusals) (k : ℕ) : Type 0 where
-  pub holds : List·Memᴰ (true, k) ts
-  pub least : (j : ℕ) → List·Memᴰ (true, j) ts → k ≤ j
+pub record Lowest (lines : Refusals) (j : ℕ) : Type 0 where
+  pub holds : List·Memᴰ (true, j) lines
+  pub least : (i : ℕ) → List·Memᴰ (true, i) lines → j ≤ i
 
 -- of any machine; it follows from demands 1 and 2
 pub record LowestAnswered (M : Machine) : Type 0 where
-  pub anywhere : (l : Lent) (c : Call) → exported c ≡ true → LentBytes l → Well c → (k : ℕ)
-      → (M l c .answer ≡ Answer.refused k) ↔ Lowest (refusals l c) k
-  pub inLife : (o : Opening) (cs : List Call) → All Within cs → (c : Call) → exported c ≡ true → Within c → (k : ℕ)
-      → (M (bytesAfter M o cs) c .answer ≡ Answer.refused k) ↔ Lowest (reasons (o .n) (tableSlots o) (shelfEntries o) (past M o cs) c) k
+  pub anywhere : (l : Lent) (c : Call) → exported c ≡ true → LentBytes l → Well c → (j : ℕ)
+      → (M l c .answer ≡ Answer.refused j) ↔ Lowest (refusals l c) j
+  pub inLife : (o : Opening) (cs : List Call) → All Within cs → (c : Call) → exported c ≡ true → Within c → (j : ℕ)
+      → (M (bytesAfter M o cs) c .answer ≡ Answer.refused j) ↔ Lowest (reasons (o .n) (tableSlots o) (shelfEntries o) (past M o cs) c) j

@@ -44,7 +44,7 @@ module _ (M : Machine) (o : Opening) where
   statusAfter cs j = slotIn (read (bytesAfter M o cs) .table) j .mask
 
   abbrev pub remsetAfter : List Call → ℕ → ℕ
-  remsetAfter cs k = slotIn (read (bytesAfter M o cs) .shelf) k .mask
+  remsetAfter cs e = slotIn (read (bytesAfter M o cs) .shelf) e .mask
 
   module _ (P : Placing) where
     -- position i is in a table walk
@@ -60,12 +60,12 @@ module _ (M : Machine) (o : Opening) where
     walksEnded [] i = 0
     walksEnded (c ∷ cs) i = walksEnded cs i + oneIf (walking cs i && not (walking (c ∷ cs) i))
 
-    -- the version in slot j, in entry k
+    -- the version in slot j, in entry e
     abbrev pub inSlot : List Call → ℕ → Option Version
     inSlot cs j = getD (placesAfter M P o cs .table) j none
 
     abbrev pub inEntry : List Call → ℕ → Option Version
-    inEntry cs k = getD (placesAfter M P o cs .shelf) k none
+    inEntry cs e = getD (placesAfter M P o cs .shelf) e none
 
     -- after these calls
     pub record MasksMean (cs : List Call) : Type 0 where
@@ -79,7 +79,7 @@ module _ (M : Machine) (o : Opening) where
       pub status : (j : ℕ) (v : Version) → inSlot cs j ≡ some v → (i : ℕ) → i < 64
           → bit (bitXor (masksAfter cs .stable) (statusAfter cs j)) i ≡ oneIf (walking cs i && not (waits cs i v))
       -- remset status: 0 where a scan awaits the version
-      pub remset : (k : ℕ) (v : Version) → inEntry cs k ≡ some v → (i : ℕ) → i < 64 → bit (remsetAfter cs k) i ≡ oneIf (not (waits cs i v))
+      pub remset : (e : ℕ) (v : Version) → inEntry cs e ≡ some v → (i : ℕ) → i < 64 → bit (remsetAfter cs e) i ≡ oneIf (not (waits cs i v))
 
 -- of every life
 unfoldable pub MasksMove : Machine → Placing → Type 0

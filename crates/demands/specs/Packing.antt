@@ -25,20 +25,20 @@ entriesOf v = v / 32768
 
 -- 0, or a refusal by its number
 abbrev pub unlessRefused : ℕ → Answer → Answer
-unlessRefused k a = cond (eqb k 0) a (Answer.refused k)
+unlessRefused j a = cond (eqb j 0) a (Answer.refused j)
 
--- the answer numbered k, of value v, to a call; a host knows the budget that it gave, and calls no peek
+-- the answer numbered j, of value v, to a call; a host knows the budget that it gave, and calls no peek
 unfoldable pub answerAs : Call → ℕ → ℕ → Answer
-answerAs (Call.opening n) k v = unlessRefused k Answer.done
-answerAs (Call.change c) k v = unlessRefused k Answer.done
-answerAs Call.begin k v = unlessRefused k (Answer.begun v)
-answerAs (Call.next t b o) k v =
-    cond (eqb k 100) (Answer.drew (Draw.paused (looksOf v)))
-    (cond (eqb k 101) (Answer.drew (Draw.finished (looksOf v) (b - looksOf v) (handedOf v)))
-    (unlessRefused k (Answer.drew (Draw.inHand (looksOf v) (b - looksOf v)))))
-answerAs (Call.reading (Reading.peek t)) k v = Answer.shown (Shown.part [])
-answerAs (Call.reading Reading.tally) k v = unlessRefused k (Answer.shown (Shown.counted (recordsOf v) (entriesOf v)))
-answerAs (Call.reading (Reading.owed t)) k v = unlessRefused k (Answer.shown (Shown.owing v))
+answerAs (Call.opening n) j v = unlessRefused j Answer.done
+answerAs (Call.change c) j v = unlessRefused j Answer.done
+answerAs Call.begin j v = unlessRefused j (Answer.begun v)
+answerAs (Call.next t b o) j v =
+    cond (eqb j 100) (Answer.drew (Draw.paused (looksOf v)))
+    (cond (eqb j 101) (Answer.drew (Draw.finished (looksOf v) (b - looksOf v) (handedOf v)))
+    (unlessRefused j (Answer.drew (Draw.inHand (looksOf v) (b - looksOf v)))))
+answerAs (Call.reading (Reading.peek t)) j v = Answer.shown (Shown.part [])
+answerAs (Call.reading Reading.tally) j v = unlessRefused j (Answer.shown (Shown.counted (recordsOf v) (entriesOf v)))
+answerAs (Call.reading (Reading.owed t)) j v = unlessRefused j (Answer.shown (Shown.owing v))
 
 -- "answer + 256 × value"
 abbrev pub unpacked : Call → ℕ → Answer

@@ -6,7 +6,7 @@ use mathlib.Core.Option.{Option, none, some}
 use mathlib.Core.List.{List, [], _∷_, _++_, map}
 use Prim.Native.Nat.{ℕ, suc, _+_, _<_}
 use lib.ListN.{length, getD, set, replicate}
-use Rattle.demands.specs.History.{Event, Version, version, Scan, History, reads, awaits, awaited, numbered, runs, scanOf, onDone, tells}
+use Rattle.demands.specs.History.{Event, Version, version, Scan, History, reads, awaits, awaited, numbered, runs, scanOf, onDone, tellsFrom, untold}
 use Rattle.demands.specs.Lists.{keep}
 use Rattle.demands.specs.Lives.{Opening, tableSlots, shelfEntries, events, past}
 use Rattle.demands.specs.Machine.{Machine}
@@ -59,7 +59,7 @@ pub record Places : Type 0 where
   pub positions : List (Option ℕ)
 
 abbrev pub places : List (Option Version) → List (Option Version) → List (Option ℕ) → Places
-places t s q = record { table = t; shelf = s; positions = q }
+places tb sh ps = record { table = tb; shelf = sh; positions = ps }
 
 -- the place of the version of number k
 abbrev pub bears : ℕ → Option Version → Bool
@@ -87,7 +87,7 @@ module _ (C : Choice) where
   sit (Answer.begun t) p = places (p .table) (p .shelf) (set (p .positions) (C .scan (p .positions)) (some t))
   sit (Answer.drew d) p = p
   sit (Answer.shown s) p = p
-  sit (Answer.refused k) p = p
+  sit (Answer.refused j) p = p
 
   abbrev pub changedAt : History → Places → Change → Places
   changedAt h p (Change.insert k b) = put p (version k b (h .changes))
@@ -102,15 +102,25 @@ module _ (C : Choice) where
   moves h g p (Call.next t b o) a = places (p .table) (map (keep (awaited g)) (p .shelf)) (map (keep (runs g)) (p .positions))
   moves h g p (Call.reading q) a = p
 
--- what was told after each call so far, newest first, and after the opening
-unfoldable pub allTold : List Event → List History
-allTold [] = tells [] ∷ []
-allTold (e ∷ es) = tells (e ∷ es) ∷ allTold es
+module _ (start : History) where
+  -- what was told after each call so far, newest first, and at the start
+  abbrev pub allToldFrom : List Event → List History
+  allToldFrom [] = start ∷ []
+  allToldFrom (e ∷ es) = tellsFrom start (e ∷ es) ∷ allToldFrom es
 
--- of N positions, T slots and R entries
+  abbrev pub placedFrom : Placing → Places → List Event → Places
+  placedFrom P p [] = p
+  placedFrom P p (e ∷ es) = moves (P (allToldFrom es)) (tellsFrom start es) (tellsFrom start (e ∷ es)) (placedFrom P p es) (e .call) (e .answer)
+
+unfoldable pub allTold : List Event → List History
+allTold es = allToldFrom untold es
+
+-- N positions, T slots and R entries, all of them empty
+abbrev pub unplaced : ℕ → ℕ → ℕ → Places
+unplaced N T R = places (replicate T none) (replicate R none) (replicate N none)
+
 unfoldable pub placed : Placing → ℕ → ℕ → ℕ → List Event → Places
-placed P N T R [] = places (replicate T none) (replicate R none) (replicate N none)
-placed P N T R (e ∷ es) = moves (P (allTold es)) (tells es) (tells (e ∷ es)) (placed P N T R es) (e .call) (e .answer)
+placed P N T R es = placedFrom untold P (unplaced N T R) es
 
 -- the running scan at a position
 abbrev pub scanWith : History → Option ℕ → Option Scan
@@ -153,4 +163,4 @@ LooksRight l s o (Answer.drew (Draw.inHand looks left)) = (n : ℕ) × (looks �
 LooksRight l s o (Answer.drew (Draw.paused looks)) = Passes l s looks
 LooksRight l s o (Answer.drew (Draw.finished looks left handed)) = Passes l s looks
 LooksRight l s o (Answer.shown x) = Unit
-LooksRight l s o (Answer.refused k) = Unit
+LooksRight l s o (Answer.refused j) = Unit

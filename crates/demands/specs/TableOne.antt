@@ -16,13 +16,13 @@ use Rattle.rules.specs.Refusals.{Call}
 
 -- call c, after the calls cs
 pub record Moved (M : Machine) (P : Placing) (o : Opening) (cs : List Call) (c : Call) : Type 0 where
-  -- a version leaves slot j for entry k, with m as its mask
-  pub remsetMaskIns : (j k : ℕ) (v : Version) → inSlot M o P cs j ≡ some v → inEntry M o P (c ∷ cs) k ≡ some v
-      → remsetAfter M o (c ∷ cs) k ≡ REMSET-MASK-INS (masksAfter M o cs .stable) (statusAfter M o cs j) (masksAfter M o cs .local)
-  -- the version in entry k is handed out to the scan at i, and awaited by another
-  pub remsetMaskUpd : (i k : ℕ) (v : Version) → i < 64 → inEntry M o P cs k ≡ some v → inEntry M o P (c ∷ cs) k ≡ some v → waits M o P cs i v ≡ true
+  -- a version leaves slot j for entry e, with m as its mask
+  pub remsetMaskIns : (j e : ℕ) (v : Version) → inSlot M o P cs j ≡ some v → inEntry M o P (c ∷ cs) e ≡ some v
+      → remsetAfter M o (c ∷ cs) e ≡ REMSET-MASK-INS (masksAfter M o cs .stable) (statusAfter M o cs j) (masksAfter M o cs .local)
+  -- the version in entry e is handed out to the scan at i, and awaited by another
+  pub remsetMaskUpd : (i e : ℕ) (v : Version) → i < 64 → inEntry M o P cs e ≡ some v → inEntry M o P (c ∷ cs) e ≡ some v → waits M o P cs i v ≡ true
       → waits M o P (c ∷ cs) i v ≡ false
-      → remsetAfter M o (c ∷ cs) k ≡ REMSET-MASK-UPD (scanMask i) (remsetAfter M o cs k)
+      → remsetAfter M o (c ∷ cs) e ≡ REMSET-MASK-UPD (scanMask i) (remsetAfter M o cs e)
   -- the table walk ends at position i
   pub lclActiveMaskUpd : (i : ℕ) → i < 64 → walking M o P cs i ≡ true → walking M o P (c ∷ cs) i ≡ false
       → masksAfter M o (c ∷ cs) .local ≡ LCL-ACTIVE-MASK-UPD (masksAfter M o cs .local) (scanMask i)
@@ -39,12 +39,12 @@ pub record Moved (M : Machine) (P : Placing) (o : Opening) (cs : List Call) (c :
       → waits M o P cs i v ≡ true → waits M o P (c ∷ cs) i v ≡ false
       → statusAfter M o (c ∷ cs) j ≡ STATUS-MASK-SCAN-UPD (statusAfter M o cs j) (scanMask i)
 
--- the scan at i reads slot j, entry k: 0 exactly where it awaits what stands there
+-- the scan at i reads slot j, entry e: 0 exactly where it awaits what stands there
 pub record ReadBy (M : Machine) (P : Placing) (o : Opening) (cs : List Call) : Type 0 where
   pub scanTableRead : (i j : ℕ) (v : Version) → i < 64 → inSlot M o P cs j ≡ some v → walking M o P cs i ≡ true
       → eqb (SCAN-TABLE-READ (masksAfter M o cs .stable) (statusAfter M o cs j) (scanMask i)) 0 ≡ waits M o P cs i v
-  pub scanRemsetRead : (i k : ℕ) (v : Version) → i < 64 → inEntry M o P cs k ≡ some v
-      → eqb (SCAN-REMSET-READ (scanMask i) (remsetAfter M o cs k)) 0 ≡ waits M o P cs i v
+  pub scanRemsetRead : (i e : ℕ) (v : Version) → i < 64 → inEntry M o P cs e ≡ some v
+      → eqb (SCAN-REMSET-READ (scanMask i) (remsetAfter M o cs e)) 0 ≡ waits M o P cs i v
 
 -- of every life
 pub record TableOne (M : Machine) (P : Placing) : Type 0 where

@@ -12,7 +12,7 @@ use borrow.Author.Tests.{leb-true, eqb-true, eqb-false, le-leb, eq-eqb, ne-eqb}
 use Rattle.rules.specs.declared.Card.{Card}
 use Rattle.rules.specs.Masks.{Masks, bit, on, off, ones, from}
 use Rattle.rules.specs.Memory.{idle, Desk, Store, T, R}
-use Rattle.rules.specs.Sound.{Field, Rules, allHold, same, allZero, nInRange, headRules, idleRules, busyRules, either, cardRules, cardsRules, deskRules, sound}
+use Rattle.rules.specs.Sound.{Field, Rules, allHold, same, allZero, nInRange, lastWordOk, headRules, idleRules, busyRules, either, cardRules, cardsRules, deskRules, sound}
 use Rattle.rules.proofs.Bits.{bit-low}
 use Rattle.rules.proofs.Soundness.{holds-append}
 
@@ -80,7 +80,7 @@ pub record Busy (m : Masks) (t r last : ℕ) (c : Card) (i : ℕ) : Type 0 where
   pub place : c .place ≤ t + r
   pub local : ltb (c .place) t ≡ off (m .local) i
   pub handed : c .handed ≤ c .place
-  pub rest : c .rest ≡ 0
+  pub rest : lastWordOk (c .rest) ≡ true
 
 abbrev pub CardSound : Masks → ℕ → ℕ → ℕ → Card → ℕ → Type 0
 CardSound m t r last c i = Idle m c i ⊎ Busy m t r last c i
@@ -119,7 +119,7 @@ module _ (m : Masks) (t r last : ℕ) where
             place = leb-true (c .place) (t + r) (q .1 .0);
             local = same-is (ltb (c .place) t) (off (m .local) i) (q .1 .1 .0);
             handed = leb-true (c .handed) (c .place) (q .1 .1 .1 .0);
-            rest = eqb-true (c .rest) 0 (q .1 .1 .1 .1 .0);
+            rest = q .1 .1 .1 .1 .0;
           })
         where
           some : (x : ℕ) → (x ≡ 0 → ⊥) → 1 ≤ x

@@ -3,7 +3,7 @@ use mathlib.Core.Path.{_≡_, refl, sym, ap, _∙_, subst}
 use mathlib.Core.Bool.{Bool, true, false, not, _&&_, false≢true}
 use mathlib.Core.Option.{Option, none, some}
 use mathlib.Core.List.{List, [], _∷_, map}
-use Prim.Native.Nat.{ℕ, _+_, _^_, _≤_, _<_}
+use Prim.Native.Nat.{ℕ, _^_, _≤_, _<_}
 use native.Mathlib.Omega.{arith}
 use native.Mathlib.Decide.{ℕ-discrete}
 use lib.Bits.{bitXor, and-le-l}
@@ -12,8 +12,9 @@ use lib.ListN.{length, getD, set, length-set, length-map, List·getD-map}
 use lib.Pow.{pow-pos}
 use borrow.Author.Tests.{ltb-true, eqb-true, not-false}
 use Rattle.wrong.specs.ClearAtBegin.{clearedIf, clearedSlot, clearedAll, clearing}
+use Rattle.wrong.specs.Ways.{effectBy}
 use Rattle.demands.specs.DemandTwo.{Unrefused}
-use Rattle.demands.specs.History.{Version, Scan, History}
+use Rattle.demands.specs.History.{Version}
 use Rattle.rules.specs.Passed.{All, Byte}
 use Rattle.demands.specs.Machine.{Within}
 use Rattle.demands.specs.Masks.{oneIf}
@@ -30,9 +31,10 @@ use Rattle.wrong.proofs.Alike.{unturned, other, SlotAlike, Alike, Twin,
 use Rattle.wrong.proofs.AlikeLooks.{walk-alike}
 use Rattle.demands.proofs.invariant.BeginKeeps.{free-seat}
 use Rattle.stores.proofs.ChangesFine.{Writes, new-small, replaced-sized}
-use Rattle.demands.proofs.invariant.Invariant.{Inv, aw, placeIn, resting}
+use Rattle.demands.proofs.invariant.Invariant.{Inv, resting}
 use Rattle.stores.proofs.LooksFine.{ticket-busy}
-use Rattle.demands.proofs.invariant.Marks.{SlotOK, set-both}
+use Rattle.demands.proofs.invariant.Marks.{OK, set-both}
+use Rattle.demands.proofs.invariant.Moment.{Moment, aw, tableOf}
 use Rattle.stores.proofs.OnePosition.{Fine, n-most}
 use Rattle.stores.proofs.Sizes.{SlotSized, set-all}
 use Rattle.stores.proofs.Stays.{some-number, at-position, ticket-some, ticket-there}
@@ -169,14 +171,17 @@ pub record CallAlike (c : Call) (x y : Told) : Type 0 where
   pub says : Likewise c x y
   pub after : Twin (x .after) (y .after)
 
-module _ (n t r : ℕ) (S : Store) (h : History) (gt gs : List (Option Version)) (sc : List (Option Scan)) (q : Inv n t r S h gt gs sc) (u : List Slot) (a : Alike S u) where
+module _ {now : Moment} (q : Inv now) (u : List Slot) (a : Alike (now .store) u) where
+  abbrev S : Store
+  S = now .store
+
   -- at a free position every record of ours is stable
   free-stable : (p : ℕ) → p < 64 → bit (S .desk .masks .active) p ≡ 1 → (i : ℕ) → 1 ≤ slotIn (S .table) i .number → bit (bitXor (S .desk .masks .stable) (slotIn (S .table) i .mask)) p ≡ 0
-  free-stable p hp e i low = go (getD gt i none) (q .marks .slots i)
+  free-stable p hp e i low = go (getD (now .table) i none) (q .tableMarks i)
     where
-      go : (o : Option Version) → SlotOK (S .desk .masks) (aw sc) (placeIn (t + r) sc) t i (slotIn (S .table) i) o → bit (bitXor (S .desk .masks .stable) (slotIn (S .table) i .mask)) p ≡ 0
+      go : (o : Option Version) → OK now (tableOf now) i (slotIn (S .table) i) o → bit (bitXor (S .desk .masks .stable) (slotIn (S .table) i .mask)) p ≡ 0
       go none w = absurd (omega (arith, ap (λ (s : Slot). s .number) w))
-      go (some v) w = w .bits p hp ∙ ap (λ (x : ℕ). oneIf (eqb x 0 && not (aw sc p v))) (resting n t r S h gt gs sc q p hp (free-seat n t r S h gt gs sc q p e) .local)
+      go (some v) w = w .bits p hp ∙ ap (λ (x : ℕ). oneIf (eqb x 0 && not (aw now p v))) (resting q p hp (free-seat q p e) .local)
 
   change-alike : (k : ℕ) (b : Option (List ℕ)) → Writes b → eqb k 0 ≡ false → not (there S k) ≡ false → Twin (changed S (bearing (S .table) k) b) (changed (other S u) (bearing u k) b)
   change-alike k b w z e =
@@ -184,8 +189,8 @@ module _ (n t r : ℕ) (S : Store) (h : History) (gt gs : List (Option Version))
       subst (λ (i : ℕ). Twin (changed S (bearing (S .table) k) b) (changed (other S u) i b)) (sym (bearing-same S u a k))
       (changed-alike S (q .fine) u a (bearing (S .table) k) (ltb-true _ _ y) (there-used S k (some-number k z) y) b w)
 
-  pub effect-alike : (c : Call) → Within c → ownRight c ≡ true → Untrue (ownRefusals S c) → CallAlike c (effect S c) (clearing (other S u) c)
-  unfolding effect clearing ownRefusals ownRight
+  pub effect-alike : (c : Call) → Within c → ownRight c ≡ true → Untrue (ownRefusals S c) → CallAlike c (effect S c) (effectBy clearing (other S u) c)
+  unfolding effect effectBy ownRefusals ownRight
   effect-alike (Call.opening m) w own e = absurd (false≢true (sym (w .1) ∙ not-false _ (e .0)))
   effect-alike (Call.change (Change.insert k b)) w own e =
       record { says = (refl, refl); after = inserted-alike S (q .fine) u a k b (some-number k (e .0)) (w .0) (eqb-true _ _ own) (w .1) (ltb-true _ _ (not-false _ (e .1 .1 .1 .0))) }

@@ -5,7 +5,8 @@ use mathlib.Core.Option.{Option, none, some}
 use mathlib.Core.List.{List, [], _∷_}
 use Prim.Native.Nat.{ℕ, _*_}
 use lib.ListN.{replicate}
-use Rattle.wrong.specs.ClearAtBegin.{clearing, clearReply, clearAtBegin}
+use Rattle.wrong.specs.ClearAtBegin.{clearing, clearAtBegin}
+use Rattle.wrong.specs.Ways.{effectBy, repliedBy, calledBy}
 use Rattle.demands.specs.DemandOne.{SameLengths}
 use Rattle.demands.specs.DemandTwo.{Fulfils, Answers}
 use Rattle.demands.specs.History.{History, heard, tells}
@@ -59,12 +60,12 @@ twins-written X Y f w = subst (λ (Z : Store). Twins (written X) (written Z)) (s
 
 -- ---- one more call
 
-clear-accepted : (l : Lent) (c : Call) → firstOf (refusals l c) ≡ none → clearAtBegin l c ≡ writtenAll (clearing (read l) c)
-unfolding clearAtBegin clearReply
+clear-accepted : (l : Lent) (c : Call) → firstOf (refusals l c) ≡ none → clearAtBegin l c ≡ writtenAll (effectBy clearing (read l) c)
+unfolding calledBy repliedBy
 clear-accepted l c e = rw e refl
 
 clear-refused : (l : Lent) (c : Call) (k : ℕ) → firstOf (refusals l c) ≡ some k → clearAtBegin l c ≡ replied (some k) l c
-unfolding clearAtBegin clearReply
+unfolding calledBy repliedBy replied
 clear-refused l c k e = rw e refl
 
 -- the answers of two that do likewise tell the same
@@ -104,18 +105,18 @@ module _ (n t r : ℕ) (l k : Lent) (h : History) (p : Places) (v : Living n t r
   unfolding replied
   refused-both j e = record { twins = w; answers = rw e refl; told = refl }
 
-  accepted-both : firstOf (refusals l c) ≡ none → Answers t r h none c (effect (read l) c .answer) (effect (read l) c .out) → Both (writtenAll (effect (read l) c)) (writtenAll (clearing (read k) c))
+  accepted-both : firstOf (refusals l c) ≡ none → Answers t r h none c (effect (read l) c .answer) (effect (read l) c .out) → Both (writtenAll (effect (read l) c)) (writtenAll (effectBy clearing (read k) c))
   accepted-both e g =
       let a = accepted l c e in
       let z = w .stores in
-      let x = effect-alike n t r (read l) h (p .table) (p .shelf) (v .seats) (v .keeps) (z .table) (z .alike) c in-life (a .own) (a .others) in
+      let x = effect-alike (v .keeps) (z .table) (z .alike) c in-life (a .own) (a .others) in
       let f : Fine (effect (read l) c .after) = accepted-fine l c (v .bytes) (well c in-life) a in
-      subst (λ (Z : Store). Both (writtenAll (effect (read l) c)) (writtenAll (clearing Z c))) (sym (z .is))
+      subst (λ (Z : Store). Both (writtenAll (effect (read l) c)) (writtenAll (effectBy clearing Z c))) (sym (z .is))
       (record {
-        twins = twins-written (effect (read l) c .after) (clearing (other (read l) (z .table)) c .after) f (x .after);
-        answers = subst (λ (o : Option ℕ). Answers t r h o c (clearing (other (read l) (z .table)) c .answer) (clearing (other (read l) (z .table)) c .out)) (sym e ∙ refusals-are n t r l h p v c in-life)
-            (likewise-fulfils t r h c (effect (read l) c) (clearing (other (read l) (z .table)) c) (x .says) g);
-        told = likewise-heard h c (effect (read l) c) (clearing (other (read l) (z .table)) c) (x .says);
+        twins = twins-written (effect (read l) c .after) (effectBy clearing (other (read l) (z .table)) c .after) f (x .after);
+        answers = subst (λ (o : Option ℕ). Answers t r h o c (effectBy clearing (other (read l) (z .table)) c .answer) (effectBy clearing (other (read l) (z .table)) c .out)) (sym e ∙ refusals-are v c in-life)
+            (likewise-fulfils t r h c (effect (read l) c) (effectBy clearing (other (read l) (z .table)) c) (x .says) g);
+        told = likewise-heard h c (effect (read l) c) (effectBy clearing (other (read l) (z .table)) c) (x .says);
       })
 
   both : Both (called l c) (clearAtBegin k c)
@@ -124,8 +125,8 @@ module _ (n t r : ℕ) (l k : Lent) (h : History) (p : Places) (v : Living n t r
       go : (o : Option ℕ) → firstOf (refusals l c) ≡ o → Both (called l c) (clearAtBegin k c)
       go none e =
           rw (accepted-is l c e, clear-accepted k c (same-refusals ∙ e))
-          (accepted-both e (subst (λ (y : Reply). Answers t r h none c (y .answer) (y .out)) (accepted-is l c e) (subst (λ (o : Option ℕ). Answers t r h o c (called l c .answer) (called l c .out)) (sym (refusals-are n t r l h p v c in-life) ∙ e) (call-lives n t r l h p v c in-life .answers))))
-      go (some j) e = rw (refused-is l c j e, clear-refused k c j (same-refusals ∙ e)) (refused-both j (sym (refusals-are n t r l h p v c in-life) ∙ e))
+          (accepted-both e (subst (λ (y : Reply). Answers t r h none c (y .answer) (y .out)) (accepted-is l c e) (subst (λ (o : Option ℕ). Answers t r h o c (called l c .answer) (called l c .out)) (sym (refusals-are v c in-life) ∙ e) (call-lives v c in-life .answers))))
+      go (some j) e = rw (refused-is l c j e, clear-refused k c j (same-refusals ∙ e)) (refused-both j (sym (refusals-are v c in-life) ∙ e))
 
 -- ---- any calls
 
@@ -141,10 +142,10 @@ opened-twin n t r =
 module _ (o : Opening) where
   -- the opening is document 01's
   opening-is-ours : clearAtBegin (o .old) (Call.opening (o .n)) ≡ called (o .old) (Call.opening (o .n))
-  unfolding clearAtBegin clearReply called replied clearing
+  unfolding calledBy repliedBy called replied effectBy
   opening-is-ours = go (firstOf (refusals (o .old) (Call.opening (o .n))))
     where
-      go : (x : Option ℕ) → clearReply x (o .old) (Call.opening (o .n)) ≡ replied x (o .old) (Call.opening (o .n))
+      go : (x : Option ℕ) → repliedBy clearing x (o .old) (Call.opening (o .n)) ≡ replied x (o .old) (Call.opening (o .n))
       go none = refl
       go (some k) = refl
 

@@ -10,13 +10,15 @@ use lib.Bits.{bitXor}
 use lib.Dec.{ltb, eqb}
 use lib.ListN.{set, length-set}
 use borrow.Author.Tests.{ltb-true, eqb-true}
-use Rattle.wrong.specs.ClearAtBegin.{walkOver, turned, tableLook, lookAt, look, walk}
+use Rattle.wrong.specs.ClearAtBegin.{walkOver}
+use Rattle.wrong.specs.Walk.{turned, tableLook, shelfLook, lookAt, look, finish, walk}
+use Rattle.wrong.specs.Ways.{itself}
 use Rattle.rules.specs.Answers.{Answer, Draw}
 use Rattle.rules.specs.Bytes.{toLe}
 use Rattle.rules.specs.Calls.{slotIn, inUse, cardOf}
 use Rattle.rules.specs.Masks.{bit, scanMask, Masks, walkEnded, ended, STATUS-MASK-SCAN-UPD, STABLE-FLIP, LCL-ACTIVE-MASK-UPD}
 use Rattle.rules.specs.Memory.{Slot, free, Store, store, T, R, version}
-use Rattle.rules.specs.Next.{Told, told, deskWith, moved, inTable, flipped, onShelf, shelfLook, atEnd, finish, turned as ourTurned, tableLook as ourTableLook, lookAt as ourLookAt, look as ourLook, walk as ourWalk}
+use Rattle.rules.specs.Next.{Told, told, deskWith, moved, inTable, flipped, onShelf, atEnd, turned as ourTurned, tableLook as ourTableLook, shelfLook as ourShelfLook, finish as ourFinish, lookAt as ourLookAt, look as ourLook, walk as ourWalk}
 use Rattle.rules.proofs.Bits.{bit-low, bit-zero, bit-xor}
 use Rattle.rules.proofs.TableOne.{flip-other, set-own, set-other}
 use Rattle.wrong.proofs.Alike.{unturned, other, SlotAlike, Alike, Twin, in-use-some, slot-stays}
@@ -24,12 +26,12 @@ use Rattle.stores.proofs.LooksFine.{BusyAt, flipped-sized, look-fine, look-busy
 use Rattle.demands.proofs.invariant.Marks.{set-both}
 use Rattle.stores.proofs.OnePosition.{Fine}
 use Rattle.stores.proofs.Sizes.{SlotSized, set-all}
-use Rattle.rules.proofs.Walk.{walkOn, walk-stop, walk-rest, walk-on}
+use Rattle.stores.proofs.Spelling.{both-true}
 
 -- ---- masks
 
 -- ours with the stable bit turned, the other without
-turned-same : (y : Bool) (m : Masks) (p : ℕ) → turned y (unturned m) p ≡ unturned (ourTurned y m p)
+turned-same : (y : Bool) (m : Masks) (p : ℕ) → turned itself walkOver y (unturned m) p ≡ unturned (ourTurned y m p)
 unfolding walkOver walkEnded
 turned-same true m p = refl
 turned-same false m p = refl
@@ -94,10 +96,10 @@ module _ (S : Store) (f : Fine S) (p : ℕ) (hp : p < 64) (b : BusyAt S p) (t : 
     abbrev turns : Masks
     turns = ourTurned (eqb (suc i) (T S)) (S .desk .masks) p
 
-    table-turned : turned (eqb (suc i) (T (other S t))) (unturned (S .desk .masks)) p ≡ unturned turns
-    table-turned = ap (λ (n : ℕ). turned (eqb (suc i) n) (unturned (S .desk .masks)) p) (a .all) ∙ turned-same (eqb (suc i) (T S)) (S .desk .masks) p
+    table-turned : turned itself walkOver (eqb (suc i) (T (other S t))) (unturned (S .desk .masks)) p ≡ unturned turns
+    table-turned = ap (λ (n : ℕ). turned itself walkOver (eqb (suc i) n) (unturned (S .desk .masks)) p) (a .all) ∙ turned-same (eqb (suc i) (T S)) (S .desk .masks) p
 
-    table-look : (x : Bool) → inTable S p i ≡ x → Looked (ourTableLook x S p i) (tableLook x (other S t) p i)
+    table-look : (x : Bool) → inTable S p i ≡ x → Looked (ourTableLook x S p i) (tableLook itself walkOver x (other S t) p i)
     unfolding ourTableLook tableLook
     table-look true e =
         record {
@@ -107,17 +109,13 @@ module _ (S : Store) (f : Fine S) (p : ℕ) (hp : p < 64) (b : BusyAt S p) (t : 
             alike = record {
               all = length-set t i _ ∙ a .all ∙ sym (length-set (S .table) i _);
               slots = set-both (λ j s z. SlotAlike (S .desk .masks) s z) (λ j s z. SlotAlike turns s z) free free (S .table) t i h (rw (a .all) h) (flipped (slotIn (S .table) i) p) (flipped (slotIn t i) p)
-                  (turned-alike (eqb (suc i) (T S)) (S .desk .masks) p _ _ (flipped-alike (S .desk .masks) p (slotIn (S .table) i) (slotIn t i) (in-use-some (slotIn (S .table) i) (first-of _ _ e)) (a .slots i)))
+                  (turned-alike (eqb (suc i) (T S)) (S .desk .masks) p _ _ (flipped-alike (S .desk .masks) p (slotIn (S .table) i) (slotIn t i) (in-use-some (slotIn (S .table) i) (both-true _ _ e .0)) (a .slots i)))
                   (λ j d w. turned-alike (eqb (suc i) (T S)) (S .desk .masks) p _ _ w) (a .slots);
               sized = set-all SlotSized free t i (flipped (slotIn t i) p) (a .sized) (flipped-sized S f p hp b (slotIn t i) (a .sized i));
             };
           };
           found = λ j. toLe 4 (a .slots i .number j) ++ a .slots i .body j;
         }
-      where
-        first-of : (x y : Bool) → x && y ≡ true → x ≡ true
-        first-of true y q = refl
-        first-of false y q = q
     table-look false e =
         record {
           after = record {
@@ -128,53 +126,32 @@ module _ (S : Store) (f : Fine S) (p : ℕ) (hp : p < 64) (b : BusyAt S p) (t : 
           found = tt;
         }
 
-  shelf-look : (x : Bool) (k : ℕ) → Looked (shelfLook x S p k) (shelfLook x (other S t) p k)
-  unfolding shelfLook
+  shelf-look : (x : Bool) (k : ℕ) → Looked (ourShelfLook x S p k) (shelfLook itself walkOver x (other S t) p k)
+  unfolding ourShelfLook shelfLook
   shelf-look true k = record { after = record { table = t; is = refl; alike = record { all = a .all; slots = a .slots; sized = a .sized } }; found = refl }
   shelf-look false k = record { after = record { table = t; is = refl; alike = record { all = a .all; slots = a .slots; sized = a .sized } }; found = tt }
 
-  look-alike : Looked (ourLook S p) (look (other S t) p)
+  look-alike : Looked (ourLook S p) (look itself walkOver (other S t) p)
   unfolding ourLookAt lookAt
-  look-alike = subst (λ (n : ℕ). Looked (ourLook S p) (lookAt (ltb (cardOf S p .place) n) (other S t) p (cardOf S p .place))) (sym (a .all)) (go (ltb (cardOf S p .place) (T S)) refl)
+  look-alike = subst (λ (n : ℕ). Looked (ourLook S p) (lookAt itself walkOver (ltb (cardOf S p .place) n) (other S t) p (cardOf S p .place))) (sym (a .all)) (go (ltb (cardOf S p .place) (T S)) refl)
     where
-      go : (x : Bool) → ltb (cardOf S p .place) (T S) ≡ x → Looked (ourLookAt x S p (cardOf S p .place)) (lookAt x (other S t) p (cardOf S p .place))
+      go : (x : Bool) → ltb (cardOf S p .place) (T S) ≡ x → Looked (ourLookAt x S p (cardOf S p .place)) (lookAt itself walkOver x (other S t) p (cardOf S p .place))
       go true e =
           let l : bit (S .desk .masks .local) p ≡ 0 = eqb-true _ _ (sym (b .local) ∙ e) in
-          subst (λ (x : Bool). Looked (ourTableLook (inTable S p (cardOf S p .place)) S p (cardOf S p .place)) (tableLook x (other S t) p (cardOf S p .place))) (sym (in-table-same (cardOf S p .place) l))
+          subst (λ (x : Bool). Looked (ourTableLook (inTable S p (cardOf S p .place)) S p (cardOf S p .place)) (tableLook itself walkOver x (other S t) p (cardOf S p .place))) (sym (in-table-same (cardOf S p .place) l))
           (table-look (ltb-true _ _ e) (inTable S p (cardOf S p .place)) refl)
       go false e =
-          subst (λ (n : ℕ). Looked (shelfLook (onShelf S p (cardOf S p .place - T S)) S p (cardOf S p .place - T S)) (shelfLook (onShelf S p (cardOf S p .place - n)) (other S t) p (cardOf S p .place - n))) (sym (a .all))
+          subst (λ (n : ℕ). Looked (ourShelfLook (onShelf S p (cardOf S p .place - T S)) S p (cardOf S p .place - T S)) (shelfLook itself walkOver (onShelf S p (cardOf S p .place - n)) (other S t) p (cardOf S p .place - n))) (sym (a .all))
           (shelf-look (onShelf S p (cardOf S p .place - T S)) (cardOf S p .place - T S))
 
-  finish-alike : Twin (finish S p) (finish (other S t) p)
-  unfolding finish ended
+  finish-alike : Twin (ourFinish S p) (finish itself walkOver (other S t) p)
+  unfolding ourFinish finish ended
   finish-alike = record { table = t; is = refl; alike = record { all = a .all; slots = λ i. slot-stays (S .desk .masks) (ended (S .desk .masks) p) (λ j h l. (l, refl)) _ _ (a .slots i); sized = a .sized } }
 
 -- ---- the walk
 
-walk-stops : (S : Store) (p b l : ℕ) (o : List ℕ) → atEnd S p ≡ true → walk S p b l o ≡ told (Answer.drew (Draw.finished l b (cardOf S p .handed))) (finish S p) o
-unfolding walk
-walk-stops S p zero l o e = rw (e, walk) refl
-walk-stops S p (suc b) l o e = rw (e, walk) refl
-
-walk-rests : (S : Store) (p l : ℕ) (o : List ℕ) → atEnd S p ≡ false → walk S p zero l o ≡ told (Answer.drew (Draw.paused l)) S o
-unfolding walk
-walk-rests S p l o e = rw (e, walk) refl
-
 at-end-same : (S : Store) (t : List Slot) → Alike S t → (p : ℕ) → atEnd (other S t) p ≡ atEnd S p
 at-end-same S t a p = ap (λ (n : ℕ). eqb (cardOf S p .place) (n + R S)) (a .all)
-
-walksOn : Store → ℕ → ℕ → ℕ → List ℕ → Option Slot → Told
-walksOn S p b l o none = walk S p b (suc l) o
-walksOn S p b l o (some v) = told (Answer.drew (Draw.inHand (suc l) b)) S (version v)
-
-walks-on : (S : Store) (p b l : ℕ) (o : List ℕ) → atEnd S p ≡ false → walk S p (suc b) l o ≡ walksOn (look S p .0) p b l o (look S p .1)
-unfolding walk walksOn
-walks-on S p b l o e = rw (e, walk) (go (look S p .1))
-  where
-    go : (x : Option Slot) → elim x as (λ y. Told) [ none ↦ walk (look S p .0) p b (suc l) o | some v ↦ told (Answer.drew (Draw.inHand (suc l) b)) (look S p .0) (version v) ] ≡ walksOn (look S p .0) p b l o x
-    go none = refl
-    go (some v) = refl
 
 pub record ToldAlike (x y : Told) : Type 0 where
   pub answer : y .answer ≡ x .answer
@@ -183,26 +160,28 @@ pub record ToldAlike (x y : Told) : Type 0 where
 
 module _ (p : ℕ) (hp : p < 64) (o : List ℕ) where
   abbrev pub WalksAlike : ℕ → Type 0
-  WalksAlike b = (S : Store) (l : ℕ) → Fine S → BusyAt S p → (t : List Slot) → Alike S t → ToldAlike (ourWalk S p b l o) (walk (other S t) p b l o)
+  WalksAlike b = (S : Store) (l : ℕ) → Fine S → BusyAt S p → (t : List Slot) → Alike S t → ToldAlike (ourWalk S p b l o) (walk itself walkOver (other S t) p b l o)
 
   pub walk-alike : (b : ℕ) → WalksAlike b
-  unfolding walkOn walksOn
+  unfolding ourWalk walk
   walk-alike zero S l f busy t a = go (atEnd S p) refl
     where
-      go : (e : Bool) → atEnd S p ≡ e → ToldAlike (ourWalk S p zero l o) (walk (other S t) p zero l o)
-      go true e = rw (walk-stop S p zero l o e, walk-stops (other S t) p zero l o (at-end-same S t a p ∙ e)) (record { answer = refl; out = refl; after = finish-alike S f p hp busy t a })
-      go false e = rw (walk-rest S p l o e, walk-rests (other S t) p l o (at-end-same S t a p ∙ e)) (record { answer = refl; out = refl; after = record { table = t; is = refl; alike = a } })
+      go : (e : Bool) → atEnd S p ≡ e → ToldAlike (ourWalk S p zero l o) (walk itself walkOver (other S t) p zero l o)
+      go true e = rw (e, ourWalk, at-end-same S t a p ∙ e, walk) (record { answer = refl; out = refl; after = finish-alike S f p hp busy t a })
+      go false e = rw (e, ourWalk, at-end-same S t a p ∙ e, walk) (record { answer = refl; out = refl; after = record { table = t; is = refl; alike = a } })
   walk-alike (suc b) S l f busy t a = go (walk-alike b) (atEnd S p) refl
     where
-      more : WalksAlike b → (X Y : Store) → Fine X → BusyAt X p → Twin X Y → (u v : Option Slot) → Found u v → ToldAlike (walkOn X p b l o u) (walksOn Y p b l o v)
-      more ih X Y g w z none none q = subst (λ (W : Store). ToldAlike (ourWalk X p b (suc l) o) (walk W p b (suc l) o)) (sym (z .is)) (ih X (suc l) g w (z .table) (z .alike))
+      more : WalksAlike b → (X Y : Store) → Fine X → BusyAt X p → Twin X Y → (u v : Option Slot) → Found u v
+          → ToldAlike (elim u as (λ y. Told) [ none ↦ ourWalk X p b (suc l) o | some s ↦ told (Answer.drew (Draw.inHand (suc l) b)) X (version s) ])
+          (elim v as (λ y. Told) [ none ↦ walk itself walkOver Y p b (suc l) o | some s ↦ told (Answer.drew (Draw.inHand (suc l) b)) Y (version s) ])
+      more ih X Y g w z none none q = subst (λ (W : Store). ToldAlike (ourWalk X p b (suc l) o) (walk itself walkOver W p b (suc l) o)) (sym (z .is)) (ih X (suc l) g w (z .table) (z .alike))
       more ih X Y g w z none (some v) q = absurd q
       more ih X Y g w z (some u) none q = absurd q
       more ih X Y g w z (some u) (some v) q = record { answer = refl; out = q; after = z }
 
-      go : WalksAlike b → (e : Bool) → atEnd S p ≡ e → ToldAlike (ourWalk S p (suc b) l o) (walk (other S t) p (suc b) l o)
-      go ih true e = rw (walk-stop S p (suc b) l o e, walk-stops (other S t) p (suc b) l o (at-end-same S t a p ∙ e)) (record { answer = refl; out = refl; after = finish-alike S f p hp busy t a })
+      go : WalksAlike b → (e : Bool) → atEnd S p ≡ e → ToldAlike (ourWalk S p (suc b) l o) (walk itself walkOver (other S t) p (suc b) l o)
+      go ih true e = rw (e, ourWalk, at-end-same S t a p ∙ e, walk) (record { answer = refl; out = refl; after = finish-alike S f p hp busy t a })
       go ih false e =
           let x = look-alike S f p hp busy t a in
-          rw (walk-on S p b l o e, walks-on (other S t) p b l o (at-end-same S t a p ∙ e))
-          (more ih (ourLook S p .0) (look (other S t) p .0) (look-fine S f p hp busy e) (look-busy S f p hp busy e) (x .after) (ourLook S p .1) (look (other S t) p .1) (x .found))
+          rw (e, ourWalk, at-end-same S t a p ∙ e, walk)
+          (more ih (ourLook S p .0) (look itself walkOver (other S t) p .0) (look-fine S f p hp busy e) (look-busy S f p hp busy e) (x .after) (ourLook S p .1) (look itself walkOver (other S t) p .1) (x .found))

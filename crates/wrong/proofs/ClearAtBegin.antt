@@ -6,25 +6,26 @@ use mathlib.Core.List.{List, [], _∷_}
 use Prim.Native.Nat.{ℕ, _<_}
 use native.Mathlib.Omega.{arith}
 use lib.ListN.{length, getD}
-use Rattle.wrong.specs.ClearAtBegin.{clearedAll, walkOver, tableLook, lookAt, walk, clearing, clearReply, clearAtBegin}
+use Rattle.wrong.specs.ClearAtBegin.{clearAtBegin}
 use Rattle.demands.specs.DemandThree.{Reads, Holds, Demand3}
-use Rattle.demands.specs.DemandTwo.{Answers, Demand2}
-use Rattle.demands.specs.History.{Version, History, needed, heard, tells}
-use Rattle.wrong.specs.Idle.{buffer}
+use Rattle.demands.specs.DemandTwo.{Fulfils, Answers, Demand2}
+use Rattle.demands.specs.History.{Version, scan, History, history, needed, heard, tells}
+use Rattle.idle.specs.Idle.{buffer}
 use Rattle.rules.specs.Passed.{All}
 use Rattle.demands.specs.Lives.{tableSlots, shelfEntries, bytesAfter, events, past}
 use Rattle.demands.specs.Machine.{Within}
 use Rattle.demands.specs.Masks.{walksEnded, MasksMove}
 use Rattle.demands.specs.Placement.{Placing, TakesEmpty, moves, allTold, placed}
-use Rattle.demands.specs.Reasons.{reason}
-use Rattle.rules.specs.Bytes.{le, toLe, field, u32At, u64At}
-use Rattle.rules.specs.Calls.{first, slotIn, opened, given}
-use Rattle.rules.specs.Masks.{bit, NOT, from, scanMask, cleared, walkBegun}
-use Rattle.rules.specs.Memory.{Lent, Slot, Store, each, slotsOf, deskOf, storeOf, joined, deskBytes, written}
-use Rattle.rules.specs.Refusals.{Call, ownRight, firstOf, ownRefusals, looksAtDesk, refusals, effect, replied, called}
-use Rattle.rules.specs.Sound.{allHold, allZero, headRules, cardRules, cardsRules, deskRules, sound}
+use Rattle.demands.specs.Reasons.{reasons, reason}
+use Rattle.rules.specs.Answers.{Answer, Draw}
+use Rattle.rules.specs.Calls.{slotIn}
+use Rattle.rules.specs.Masks.{bit}
+use Rattle.rules.specs.Memory.{Lent, Slot, Store, slotsOf, storeOf}
+use Rattle.rules.specs.Refusals.{Call, firstOf, called}
+use Rattle.rules.proofs.Bits.{bit-zero}
 use Rattle.wrong.proofs.AlikeLives.{Twins, opens, opening-same, next-both, along}
-use Rattle.demands.proofs.machines.Small.{tiny}
+use Rattle.idle.proofs.OneMore.{one-more, answered, pauses}
+use Rattle.demands.proofs.machines.Small.{small, tiny}
 use Rattle.demands.proofs.page.DemandThree.{demand-3}
 use Rattle.demands.proofs.page.DemandTwo.{demand-2}
 use Rattle.stores.proofs.Sizes.{zero-bytes}
@@ -86,9 +87,23 @@ one-walk-within = ((omega arith, omega arith, zero-bytes 56), (tt, tt))
 first-taken : (P : Placing) → TakesEmpty P → P (allTold []) .scan (none ∷ []) ≡ 0
 first-taken P e = let h : P (allTold []) .scan (none ∷ []) < 1 = e .scan (allTold []) (none ∷ []) 0 (omega arith) refl .0 in omega arith
 
+-- what the calls are answered
+begun-first : clearAtBegin (bytesAfter clearAtBegin tiny []) Call.begin .answer ≡ Answer.begun 1
+unfolding events tells tiny small reasons firstOf Fulfils
+begun-first = answered clearAtBegin tiny [] (tells []) refl Call.begin clear-at-begin-meets-2 tt tt
+
+begun-told : past clearAtBegin tiny (Call.begin ∷ []) ≡ history 0 [] [] 1 (scan 1 [] [] 0 ∷ [])
+unfolding events tells heard
+begun-told = one-more clearAtBegin tiny [] (tells []) refl Call.begin _ begun-first
+
+paused-next : clearAtBegin (bytesAfter clearAtBegin tiny (Call.begin ∷ [])) (Call.next 1 1 buffer) .answer ≡ Answer.drew (Draw.paused 1)
+unfolding tiny small reasons firstOf Fulfils buffer
+paused-next = pauses 0 _ _ (answered clearAtBegin tiny (Call.begin ∷ []) (history 0 [] [] 1 (scan 1 [] [] 0 ∷ [])) begun-told (Call.next 1 1 buffer) clear-at-begin-meets-2 (one-walk-within .1) (one-walk-within .0))
+
 -- one table walk has ended, and the stable bit is 0
 pub clear-at-begin-fails-masks : (P : Placing) → TakesEmpty P → MasksMove clearAtBegin P → ⊥
-unfolding MasksMove walksEnded bytesAfter events tells heard tiny buffer clearedAll walkOver tableLook lookAt walk clearing clearReply clearAtBegin le toLe field u32At u64At first opened given bit NOT from scanMask cleared walkBegun each deskOf storeOf joined deskBytes written ownRight looksAtDesk firstOf ownRefusals refusals effect replied allHold allZero headRules cardRules cardsRules deskRules sound placed moves
+unfolding MasksMove walksEnded events tells heard tiny small placed allTold moves
 clear-at-begin-fails-masks P t d =
-    let e : _≡_ {A = ℕ} 0 1 = rw (first-taken P t) at (d tiny (opens tiny) one-walk one-walk-within .stable 0 (omega arith)) in
+    let m = ap (λ (S : Store). S .desk .masks .stable) (along tiny one-walk one-walk-within .twins .stores .is) in
+    let e : _≡_ {A = ℕ} 0 1 = sym (ap (λ (x : ℕ). bit x 0) m ∙ bit-zero 0) ∙ rw (begun-first, paused-next, first-taken P t) at (d tiny (opens tiny) one-walk one-walk-within .stable 0 (omega arith)) in
     omega arith

@@ -1,12 +1,5 @@
-pub mod Caught
-pub mod LeavesEveryByte
+pub mod Ours
 pub mod NoScans
-pub mod InUse
-pub mod ShelvesOnce
-pub mod BothAccepted
-pub mod BothHanded
-pub mod HandsOut
-pub mod ShelvesFirstOnly
 pub mod FirstChangeOnly
 pub mod OldStore
 pub mod Alike

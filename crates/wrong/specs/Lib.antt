@@ -1,4 +1,5 @@
-pub mod Idle
+pub mod Walk
+pub mod Ways
 pub mod NoScans
 pub mod FirstChangeOnly
 pub mod OldStore

@@ -1,16 +1,21 @@
 -- The store of document 01 but for one fault: it never starts a scan. A begin that document 01 accepts is refused by 9.
-use mathlib.Core.Option.{Option, none, some}
-use Prim.Native.Nat.{ℕ}
+use mathlib.Core.Bool.{true}
+use mathlib.Core.List.{[], _∷_, _++_}
 use Rattle.demands.specs.Machine.{Machine}
-use Rattle.rules.specs.Refusals.{Call, firstOf, refusals, replied, called}
+use Rattle.rules.specs.Masks.{walkEnded}
+use Rattle.rules.specs.Memory.{Lent}
+use Rattle.rules.specs.Refusals.{Call, Refusals, refusals, changesTo}
+use Rattle.wrong.specs.Ways.{Ways, ways, begun, itself, calledBy}
 
-abbrev pub noneFree : Option ℕ → Option ℕ
-noneFree (some k) = some k
-noneFree none = some 9
+unfoldable pub noneFree : Lent → Call → Refusals
+noneFree l (Call.opening n) = refusals l (Call.opening n)
+noneFree l (Call.change c) = refusals l (Call.change c)
+noneFree l Call.begin = refusals l Call.begin ++ ((true, 9) ∷ [])
+noneFree l (Call.next t b o) = refusals l (Call.next t b o)
+noneFree l (Call.reading q) = refusals l (Call.reading q)
 
-unfoldable pub noScans : Machine
-noScans l (Call.opening n) = called l (Call.opening n)
-noScans l (Call.change c) = called l (Call.change c)
-noScans l Call.begin = replied (noneFree (firstOf (refusals l Call.begin))) l Call.begin
-noScans l (Call.next t b o) = called l (Call.next t b o)
-noScans l (Call.reading q) = called l (Call.reading q)
+abbrev pub scanless : Ways
+scanless = ways noneFree changesTo begun itself walkEnded
+
+abbrev pub noScans : Machine
+noScans = calledBy scanless

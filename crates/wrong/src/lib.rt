@@ -1,1 +1,1 @@
-// No code: stores that the demands shut out, each by what it does, and the proof that it is shut out.
+// No code: stores that are document 01's but for their ways, and the demands that each meets or does not.

@@ -6,8 +6,8 @@ use mathlib.Core.Logic.{_⊎_, inl, inr}
 use Prim.Native.Nat.{ℕ, suc, _≤_, _<_}
 use native.Mathlib.Omega.{arith}
 use lib.Dec.{eqb}
-use borrow.Author.Tests.{eqb-true, eqb-false}
-use Rattle.demands.specs.History.{Version, version, Scan, scan, History, history, reads, awaits, numbered, ticketed, isLive, remain, leaving, inserted, modified, deleted, begins, onward, goesOn, goes, finishes}
+use borrow.Author.Tests.{eqb-true, eqb-false, not-true}
+use Rattle.demands.specs.History.{Version, version, Scan, scan, History, reads, awaits, numbered, ticketed, isLive, remain, leaving, inserted, modified, deleted, begins, onward, goesOn, goes, finishes, untold}
 use Rattle.demands.specs.Lists.{Permutation}
 use Rattle.demands.proofs.lists.Apart.{Apart, apart-eq, apart-perm, apart-those}
 use Rattle.demands.proofs.history.Awaits.{awaits-began, awaits-not, Handing, handing-first, handing-passed, handing-handed}
@@ -87,11 +87,7 @@ module _ (h : History) (q : Past h) where
   left-one k = subst (λ (l : List Version). Permutation l (ever h)) (append-assoc (remain k (h .live)) (leaving k (h .live)) (h .left)) (perm-before (remain k (h .live) ++ leaving k (h .live)) (h .live) (h .left) (fail-pass (numbered k) (h .live)))
 
   remain-not : (k : ℕ) (u : Version) → In u (remain k (h .live)) → u .number ≡ k → ⊥
-  remain-not k u i z = eqb-false (u .number) k (not-true′ (eqb (u .number) k) (those-in (λ v. not (numbered k v)) (h .live) u i .1)) z
-    where
-      not-true′ : (b : Bool) → not b ≡ true → b ≡ false
-      not-true′ true e = sym e
-      not-true′ false e = refl
+  remain-not k u i z = eqb-false (u .number) k (not-true (eqb (u .number) k) (those-in (λ v. not (numbered k v)) (h .live) u i .1)) z
 
   pub modified-past : (k : ℕ) (b : List ℕ) → k < 4294967296 → Past (modified h k b)
   modified-past k b small =
@@ -176,7 +172,7 @@ module _ (h : History) (q : Past h) where
         scans = λ s i. let w = q .scans s (those-in (λ s. not (ticketed t s)) (h .running) s i .0) in record { low = w .low; high = w .high; from = w .from; numbers = w .numbers; handing = w .handing };
       }
 
-pub opened-past : Past (history 0 [] [] 0 [])
+pub opened-past : Past untold
 opened-past =
     record {
       numbers = tt;

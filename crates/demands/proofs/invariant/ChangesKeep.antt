@@ -1,6 +1,6 @@
 -- Insert, modify and delete keep the invariant.
 use mathlib.Core.Path.{_≡_, refl, sym, ap, _∙_, subst}
-use mathlib.Core.Bool.{Bool, true, false, not, _&&_, cond}
+use mathlib.Core.Bool.{Bool, true, false, not, _&&_, cond, Bool·not-not}
 use mathlib.Core.Option.{Option, none, some}
 use mathlib.Core.List.{List, [], _∷_, _++_}
 use Prim.Native.Nat.{ℕ, _+_, _≤_, _<_}
@@ -8,19 +8,20 @@ use native.Mathlib.Omega.{arith}
 use lib.Bits.{bitXor}
 use lib.ListN.{length, getD, set, length-set}
 use lib.Seq.{getD-set-same, set-set}
-use borrow.Author.Tests.{eq-eqb, ne-eqb}
+use borrow.Author.Tests.{eq-eqb, ne-eqb, not-true, not-false}
 use Rattle.demands.specs.History.{Version, version, Scan, History, awaited, needed, numbered, isLive, remain, leaving, inserted, modified, deleted}
 use Rattle.rules.specs.Passed.{All, Byte}
 use Rattle.demands.specs.Lists.{those, standing, Permutation}
-use Rattle.demands.specs.Masks.{oneIf}
-use Rattle.rules.specs.Calls.{slotIn, emptySlot, present, replaced, unawaited, changedBy}
+use Rattle.demands.specs.Masks.{oneIf, waitsFor}
+use Rattle.rules.specs.Calls.{slotIn, emptySlot, shelfEntry, present, replaced, unawaited, changedBy, changed}
 use Rattle.rules.specs.Masks.{bit, off, newStatus}
 use Rattle.rules.specs.Memory.{slot, free, idle, Desk, Store, T, R}
 use Rattle.demands.proofs.lists.Apart.{apart-perm}
 use Rattle.stores.proofs.ChangesFine.{Writes, inserted-fine, changed-fine}
-use Rattle.demands.proofs.invariant.Invariant.{awaitsO, SeatOK, aw, placeIn, Inv, table-numbers, shelf-numbers, gt-length, gs-length, empty-place, runs-at, not-awaited, slot-of, unawaited-is, m-bits}
+use Rattle.demands.proofs.invariant.Invariant.{SeatOK, Inv, table-numbers, shelf-numbers, gt-length, gs-length, empty-place, runs-at, not-awaited, slot-of, unawaited-is, m-bits}
 use Rattle.demands.proofs.lists.Lists.{back, perm-those, perm-before}
-use Rattle.demands.proofs.invariant.Marks.{SlotIs, SlotOK, EntryOK, Marks, set-both, new-bits}
+use Rattle.demands.proofs.invariant.Marks.{Is, OK, Marked, set-both, new-bits}
+use Rattle.demands.proofs.invariant.Moment.{Moment, versionsMove, aw, tableOf, shelfOf}
 use Rattle.demands.proofs.history.Past.{Past, numberOf, unmade, inserted-past, modified-past, deleted-past}
 use Rattle.demands.proofs.lists.Places.{At, at-below, standing-taken, one-place, those-but, those-one}
 use Rattle.stores.proofs.Stays.{changed-kept}
@@ -31,100 +32,99 @@ unfolding changedBy
 desk-same true S j b = refl
 desk-same false S j b = refl
 
-module _ (n t r : ℕ) (S : Store) (h : History) (gt gs : List (Option Version)) (sc : List (Option Scan)) (q : Inv n t r S h gt gs sc) where
+module _ {now : Moment} (q : Inv now) where
   -- nobody awaits a version that is being made
-  nobody : (v : Version) → v .change ≡ h .changes → (i : ℕ) → aw sc i v ≡ false
-  nobody v e i = go (getD sc i none) refl
+  nobody : (v : Version) → v .change ≡ now .history .changes → (i : ℕ) → aw now i v ≡ false
+  nobody v e i = go (getD (now .seats) i none) refl
     where
-      go : (o : Option Scan) → getD sc i none ≡ o → aw sc i v ≡ false
-      go none d = ap (λ (o : Option Scan). awaitsO o v) d
-      go (some s) d = ap (λ (o : Option Scan). awaitsO o v) d ∙ unmade h (q .past) s (runs-at n t r S h gt gs sc q i s d) v (omega arith)
+      go : (o : Option Scan) → getD (now .seats) i none ≡ o → aw now i v ≡ false
+      go none d = ap (λ (o : Option Scan). waitsFor o v) d
+      go (some s) d = ap (λ (o : Option Scan). waitsFor o v) d ∙ unmade (now .history) (q .past) s (runs-at q i s d) v (omega arith)
 
   -- a slot with the new status, or one that nobody awaited, holds a version that is being made
-  new-slot : (j x : ℕ) (v : Version) → 1 ≤ v .number → v .change ≡ h .changes
-      → ((i : ℕ) → i < 64 → bit (bitXor (S .desk .masks .stable) x) i ≡ oneIf (off (S .desk .masks .local) i && not (aw sc i v)))
-      → SlotIs (S .desk .masks) (aw sc) (placeIn (t + r) sc) t j (slot (v .number) (v .body) x) v
+  new-slot : (j x : ℕ) (v : Version) → 1 ≤ v .number → v .change ≡ now .history .changes
+      → ((i : ℕ) → i < 64 → bit (bitXor (now .store .desk .masks .stable) x) i ≡ oneIf (off (now .store .desk .masks .local) i && not (aw now i v)))
+      → Is now (tableOf now) j (slot (v .number) (v .body) x) v
   new-slot j x v k e b = record { number = refl; some = k; body = refl; bits = b; passed = λ i hi g. nobody v e i }
 
-  new-status : (v : Version) → v .change ≡ h .changes → (i : ℕ) → i < 64 → bit (bitXor (S .desk .masks .stable) (newStatus (S .desk .masks))) i ≡ oneIf (off (S .desk .masks .local) i && not (aw sc i v))
-  new-status v e = new-bits (S .desk .masks) (aw sc) (placeIn (t + r) sc) t (q .fine .sized .desk .stable) (q .fine .sized .desk .local) v (λ i hi. nobody v e i)
+  new-status : (v : Version) → v .change ≡ now .history .changes → (i : ℕ) → i < 64 → bit (bitXor (now .store .desk .masks .stable) (newStatus (now .store .desk .masks))) i ≡ oneIf (off (now .store .desk .masks .local) i && not (aw now i v))
+  new-status v e i hi =
+      new-bits (now .store .desk .masks) (q .fine .sized .desk .stable) (q .fine .sized .desk .local) i hi ∙ sym (ap (λ (b : Bool). oneIf (off (now .store .desk .masks .local) i && not b)) (nobody v e i))
 
   -- ---- insert
 
-  pub insert-keeps : (k : ℕ) (b : List ℕ) → 1 ≤ k → k < 4294967296 → length b ≡ 52 → All Byte b → isLive h k ≡ false → emptySlot (S .table) < T S
-      → Inv n t r (Rattle.rules.specs.Calls.inserted S k b) (inserted h k b) (set gt (emptySlot (S .table)) (some (version k b (h .changes)))) gs sc
+  pub insert-keeps : (k : ℕ) (b : List ℕ) → 1 ≤ k → k < 4294967296 → length b ≡ 52 → All Byte b → isLive (now .history) k ≡ false → emptySlot (now .store .table) < T (now .store)
+      → Inv (versionsMove now (Rattle.rules.specs.Calls.inserted (now .store) k b) (inserted (now .history) k b) (set (now .table) (emptySlot (now .store .table)) (some (version k b (now .history .changes)))) (now .shelf))
   unfolding Rattle.rules.specs.Calls.inserted awaited
   insert-keeps k b low small len bytes absent room =
-      let e : ℕ = emptySlot (S .table) in
-      let v : Version = version k b (h .changes) in
-      let z : getD gt e none ≡ none = empty-place (S .table) gt (gt-length n t r S h gt gs sc q) (table-numbers n t r S h gt gs sc q) room in
-      let w : e < length gt = omega (arith, gt-length n t r S h gt gs sc q) in
+      let e : ℕ = emptySlot (now .store .table) in
+      let v : Version = version k b (now .history .changes) in
+      let z : getD (now .table) e none ≡ none = empty-place (now .store .table) (now .table) (gt-length q) (table-numbers q) room in
+      let w : e < length (now .table) = omega (arith, gt-length q) in
       record {
-        fine = inserted-fine S (q .fine) k b small len bytes;
-        past = inserted-past h (q .past) k b small absent;
+        fine = inserted-fine (now .store) (q .fine) k b small len bytes;
+        past = inserted-past (now .history) (q .past) k b small absent;
         isN = q .isN;
-        isT = length-set (S .table) e _ ∙ q .isT;
+        isT = length-set (now .store .table) e _ ∙ q .isT;
         isR = q .isR;
         last = q .last;
-        slots = length-set gt e (some v) ∙ q .slots;
+        slots = length-set (now .table) e (some v) ∙ q .slots;
         entries = q .entries;
         seats = q .seats;
         seated = q .seated;
         cards = q .cards;
-        marks = record {
-          slots = set-both (SlotOK (S .desk .masks) (aw sc) (placeIn (t + r) sc) t) (SlotOK (S .desk .masks) (aw sc) (placeIn (t + r) sc) t) free none (S .table) gt e room w
-              (slot k b (newStatus (S .desk .masks))) (some v) (new-slot e (newStatus (S .desk .masks)) v low refl (new-status v refl)) (λ i d x. x) (q .marks .slots);
-          entries = q .marks .entries;
-        };
-        tabled = Permutation.both (standing-taken gt e v z w) (Permutation.next (q .tabled));
+        tableMarks = set-both (OK now (tableOf now)) (OK now (tableOf now)) free none (now .store .table) (now .table) e room w
+            (slot k b (newStatus (now .store .desk .masks))) (some v) (new-slot e (newStatus (now .store .desk .masks)) v low refl (new-status v refl)) (λ i d x. x) (q .tableMarks);
+        shelfMarks = q .shelfMarks;
+        tabled = Permutation.both (standing-taken (now .table) e v z w) (Permutation.next (q .tabled));
         shelved = q .shelved;
       }
 
   -- ---- modify and delete
 
-  module _ (j : ℕ) (v : Version) (here : At gt j v) where
-    hj : j < length gt
-    hj = at-below gt j v here
+  module _ (j : ℕ) (v : Version) (here : At (now .table) j v) where
+    hj : j < length (now .table)
+    hj = at-below (now .table) j v here
 
-    hjt : j < length (S .table)
-    hjt = omega (arith, hj, gt-length n t r S h gt gs sc q)
+    hjt : j < length (now .store .table)
+    hjt = omega (arith, hj, gt-length q)
 
-    alone : (i : ℕ) (u : Version) → (i ≡ j → ⊥) → At gt i u → u .number ≡ v .number → ⊥
-    alone i u d e z = d (one-place numberOf gt (apart-perm numberOf (h .live) (standing gt) (back (q .tabled)) (q .past .numbers)) i j u v e here z)
+    alone : (i : ℕ) (u : Version) → (i ≡ j → ⊥) → At (now .table) i u → u .number ≡ v .number → ⊥
+    alone i u d e z = d (one-place numberOf (now .table) (apart-perm numberOf (now .history .live) (standing (now .table)) (back (q .tabled)) (q .past .numbers)) i j u v e here z)
 
     -- what remains stands where it stood
-    pub remains : Permutation (standing (set gt j none)) (remain (v .number) (h .live))
+    pub remains : Permutation (standing (set (now .table) j none)) (remain (v .number) (now .history .live))
     remains =
-        subst (λ (l : List Version). Permutation l (remain (v .number) (h .live)))
-        (those-but (λ u. not (numbered (v .number) u)) gt j v here (rw (eq-eqb (v .number) (v .number) refl) refl) (λ i u d e. rw (ne-eqb (u .number) (v .number) (alone i u d e)) refl))
-        (perm-those (λ u. not (numbered (v .number) u)) (standing gt) (h .live) (q .tabled))
+        subst (λ (l : List Version). Permutation l (remain (v .number) (now .history .live)))
+        (those-but (λ u. not (numbered (v .number) u)) (now .table) j v here (rw (eq-eqb (v .number) (v .number) refl) refl) (λ i u d e. rw (ne-eqb (u .number) (v .number) (alone i u d e)) refl))
+        (perm-those (λ u. not (numbered (v .number) u)) (standing (now .table)) (now .history .live) (q .tabled))
 
     -- the version at j leaves, and no other
-    pub leaves : Permutation (v ∷ []) (leaving (v .number) (h .live))
+    pub leaves : Permutation (v ∷ []) (leaving (v .number) (now .history .live))
     leaves =
-        subst (λ (l : List Version). Permutation l (leaving (v .number) (h .live)))
-        (those-one (numbered (v .number)) gt j v here (eq-eqb (v .number) (v .number) refl) (λ i u d e. ne-eqb (u .number) (v .number) (alone i u d e)))
-        (perm-those (numbered (v .number)) (standing gt) (h .live) (q .tabled))
+        subst (λ (l : List Version). Permutation l (leaving (v .number) (now .history .live)))
+        (those-one (numbered (v .number)) (now .table) j v here (eq-eqb (v .number) (v .number) refl) (λ i u d e. ne-eqb (u .number) (v .number) (alone i u d e)))
+        (perm-those (numbered (v .number)) (standing (now .table)) (now .history .live) (q .tabled))
 
     -- where it goes
     abbrev pub shelves : Bool → List (Option Version)
-    shelves b = cond b (set gs (emptySlot (S .shelf)) (some v)) gs
+    shelves b = cond b (set (now .shelf) (shelfEntry (now .store)) (some v)) (now .shelf)
 
-    module _ (room : awaited h v ≡ true → emptySlot (S .shelf) < R S) where
-      shelves-length : (b : Bool) → length (shelves b) ≡ r
-      shelves-length true = length-set gs (emptySlot (S .shelf)) (some v) ∙ q .entries
+    module _ (room : awaited (now .history) v ≡ true → shelfEntry (now .store) < R (now .store)) where
+      shelves-length : (b : Bool) → length (shelves b) ≡ now .r
+      shelves-length true = length-set (now .shelf) (shelfEntry (now .store)) (some v) ∙ q .entries
       shelves-length false = q .entries
 
       -- the versions that are needed once it has left
-      shelves-needed : (g : History) → g .running ≡ h .running → g .left ≡ leaving (v .number) (h .live) ++ h .left → Permutation (standing (shelves (awaited h v))) (needed g)
+      shelves-needed : (g : History) → g .running ≡ now .history .running → g .left ≡ leaving (v .number) (now .history .live) ++ now .history .left → Permutation (standing (shelves (awaited (now .history) v))) (needed g)
       unfolding awaited
       shelves-needed g er el =
-          rw (er, el) (Permutation.both (go (awaited h v) refl) (perm-those (awaited h) (v ∷ h .left) (leaving (v .number) (h .live) ++ h .left) (perm-before (v ∷ []) (leaving (v .number) (h .live)) (h .left) leaves)))
+          rw (er, el) (Permutation.both (go (awaited (now .history) v) refl) (perm-those (awaited (now .history)) (v ∷ now .history .left) (leaving (v .number) (now .history .live) ++ now .history .left) (perm-before (v ∷ []) (leaving (v .number) (now .history .live)) (now .history .left) leaves)))
         where
-          go : (b : Bool) → awaited h v ≡ b → Permutation (standing (shelves b)) (those (awaited h) (v ∷ h .left))
+          go : (b : Bool) → awaited (now .history) v ≡ b → Permutation (standing (shelves b)) (those (awaited (now .history)) (v ∷ now .history .left))
           go true e =
-              let w : emptySlot (S .shelf) < R S = room e in
-              rw e (Permutation.both (standing-taken gs (emptySlot (S .shelf)) v (empty-place (S .shelf) gs (gs-length n t r S h gt gs sc q) (shelf-numbers n t r S h gt gs sc q) w) (omega (arith, gs-length n t r S h gt gs sc q))) (Permutation.next (q .shelved)))
+              let w : shelfEntry (now .store) < R (now .store) = room e in
+              rw e (Permutation.both (standing-taken (now .shelf) (shelfEntry (now .store)) v (empty-place (now .store .shelf) (now .shelf) (gs-length q) (shelf-numbers q) w) (omega (arith, gs-length q))) (Permutation.next (q .shelved)))
           go false e = rw e (q .shelved)
 
       -- the slot after the change: freed, or a version that is being made
@@ -132,86 +132,75 @@ module _ (n t r : ℕ) (S : Store) (h : History) (gt gs : List (Option Version))
       New none none = Unit
       New none (some u) = ⊥
       New (some b) none = ⊥
-      New (some b) (some u) = u ≡ version (v .number) b (h .changes)
+      New (some b) (some u) = u ≡ version (v .number) b (now .history .changes)
 
       new-slot-ok : (x : ℕ) (b : Option (List ℕ)) (u : Option Version) → New b u
-          → ((w : Version) → w .change ≡ h .changes → (i : ℕ) → i < 64 → bit (bitXor (S .desk .masks .stable) x) i ≡ oneIf (off (S .desk .masks .local) i && not (aw sc i w)))
-          → SlotOK (S .desk .masks) (aw sc) (placeIn (t + r) sc) t j (replaced (slotIn (S .table) j) b x) u
+          → ((w : Version) → w .change ≡ now .history .changes → (i : ℕ) → i < 64 → bit (bitXor (now .store .desk .masks .stable) x) i ≡ oneIf (off (now .store .desk .masks .local) i && not (aw now i w)))
+          → OK now (tableOf now) j (replaced (slotIn (now .store .table) j) b x) u
       new-slot-ok x none none w f = refl
       new-slot-ok x none (some u) w f = absurd w
       new-slot-ok x (some b) none w f = absurd w
       new-slot-ok x (some b) (some u) w f =
-          let s = slot-of n t r S h gt gs sc q j v here in
-          rw (w, s .number) (new-slot j x (version (v .number) b (h .changes)) (rw (s .number) at (s .some)) refl (f (version (v .number) b (h .changes)) refl))
+          let s = slot-of q j v here in
+          rw (w, s .number) (new-slot j x (version (v .number) b (now .history .changes)) (rw (s .number) at (s .some)) refl (f (version (v .number) b (now .history .changes)) refl))
 
-      changed-marks : (b : Option (List ℕ)) (u : Option Version) → New b u → (x : Bool) → unawaited S j ≡ x
-          → Marks (S .desk .masks) (aw sc) (placeIn (t + r) sc) t (changedBy x S j b .table) (changedBy x S j b .shelf) (set gt j u) (shelves (not x))
+      -- the moment after it
+      abbrev n : Option (List ℕ) → Option Version → History → Bool → Moment
+      n b u g x = versionsMove now (changedBy x (now .store) j b) g (set (now .table) j u) (shelves (not x))
+
+      changed-marks : (b : Option (List ℕ)) (u : Option Version) (g : History) → New b u → (x : Bool) → unawaited (now .store) j ≡ x → Marked (n b u g x) (tableOf (n b u g x)) × Marked (n b u g x) (shelfOf (n b u g x))
       unfolding changedBy
-      changed-marks b u w true e =
-          let a : awaited h v ≡ false = flip (awaited h v) (sym (unawaited-is n t r S h gt gs sc q j v here) ∙ e) in
-          record {
-            slots = set-both (SlotOK (S .desk .masks) (aw sc) (placeIn (t + r) sc) t) (SlotOK (S .desk .masks) (aw sc) (placeIn (t + r) sc) t) free none (S .table) gt j hjt hj
-                (replaced (slotIn (S .table) j) b (slotIn (S .table) j .mask)) u
-                (new-slot-ok (slotIn (S .table) j .mask) b u w
-                (λ y d i hi. slot-of n t r S h gt gs sc q j v here .bits i hi ∙ ap (λ (z : Bool). oneIf (off (S .desk .masks .local) i && not z)) (not-awaited n t r S h gt gs sc q v a i ∙ sym (nobody y d i))))
-                (λ i d z. z) (q .marks .slots);
-            entries = q .marks .entries;
-          }
-        where
-          flip : (c : Bool) → not c ≡ true → c ≡ false
-          flip true f = sym f
-          flip false f = refl
-      changed-marks b u w false e =
-          let a : awaited h v ≡ true = flip (awaited h v) (sym (unawaited-is n t r S h gt gs sc q j v here) ∙ e) in
-          let k : emptySlot (S .shelf) < R S = room a in
-          let s = slot-of n t r S h gt gs sc q j v here in
-          record {
-            slots = set-both (SlotOK (S .desk .masks) (aw sc) (placeIn (t + r) sc) t) (SlotOK (S .desk .masks) (aw sc) (placeIn (t + r) sc) t) free none (S .table) gt j hjt hj
-                (replaced (slotIn (S .table) j) b (newStatus (S .desk .masks))) u (new-slot-ok (newStatus (S .desk .masks)) b u w new-status) (λ i d z. z) (q .marks .slots);
-            entries = set-both (EntryOK (S .desk .masks) (aw sc) (placeIn (t + r) sc) t) (EntryOK (S .desk .masks) (aw sc) (placeIn (t + r) sc) t) free none (S .shelf) gs (emptySlot (S .shelf)) k
-                (omega (arith, gs-length n t r S h gt gs sc q)) (present S j) (some v)
-                (record { number = s .number; some = s .some; body = s .body; bits = m-bits n t r S h gt gs sc q j v here; passed = λ i hi g. s .passed i hi (omega (arith, hj, q .slots)) }) (λ i d z. z) (q .marks .entries);
-          }
-        where
-          flip : (c : Bool) → not c ≡ false → c ≡ true
-          flip true f = refl
-          flip false f = sym f
+      changed-marks b u g w true e =
+          let a : awaited (now .history) v ≡ false = not-true (awaited (now .history) v) (sym (unawaited-is q j v here) ∙ e) in (
+            set-both (OK now (tableOf now)) (OK now (tableOf now)) free none (now .store .table) (now .table) j hjt hj (replaced (slotIn (now .store .table) j) b (slotIn (now .store .table) j .mask)) u
+                (new-slot-ok (slotIn (now .store .table) j .mask) b u w
+                (λ y d i hi. slot-of q j v here .bits i hi ∙ ap (λ (z : Bool). oneIf (off (now .store .desk .masks .local) i && not z)) (not-awaited q v a i ∙ sym (nobody y d i))))
+                (λ i d z. z) (q .tableMarks),
+            q .shelfMarks,
+          )
+      changed-marks b u g w false e =
+          let a : awaited (now .history) v ≡ true = not-false (awaited (now .history) v) (sym (unawaited-is q j v here) ∙ e) in
+          let k : shelfEntry (now .store) < R (now .store) = room a in
+          let s = slot-of q j v here in (
+            set-both (OK now (tableOf now)) (OK now (tableOf now)) free none (now .store .table) (now .table) j hjt hj (replaced (slotIn (now .store .table) j) b (newStatus (now .store .desk .masks))) u
+                (new-slot-ok (newStatus (now .store .desk .masks)) b u w new-status) (λ i d z. z) (q .tableMarks),
+            set-both (OK now (shelfOf now)) (OK now (shelfOf now)) free none (now .store .shelf) (now .shelf) (shelfEntry (now .store)) k (omega (arith, gs-length q)) (present (now .store) j) (some v)
+                (record { number = s .number; some = s .some; body = s .body; bits = m-bits q j v here; passed = λ i hi g. s .passed i hi (omega (arith, hj, q .slots)) }) (λ i d z. z) (q .shelfMarks),
+          )
 
-      changed-keeps : (b : Option (List ℕ)) (u : Option Version) → Writes b → New b u → (g : History) → Past g → g .given ≡ h .given → g .running ≡ h .running → g .left ≡ leaving (v .number) (h .live) ++ h .left
-          → Permutation (standing (set gt j u)) (g .live) → Inv n t r (changedBy (unawaited S j) S j b) g (set gt j u) (shelves (awaited h v)) sc
+      changed-keeps : (b : Option (List ℕ)) (u : Option Version) → Writes b → New b u → (g : History) → Past g → g .given ≡ now .history .given → g .running ≡ now .history .running → g .left ≡ leaving (v .number) (now .history .live) ++ now .history .left
+          → Permutation (standing (set (now .table) j u)) (g .live) → Inv (versionsMove now (changed (now .store) j b) g (set (now .table) j u) (shelves (awaited (now .history) v)))
       changed-keeps b u wr w g pg eg er el tab =
-          let d = desk-same (unawaited S j) S j b in
-          let k = changed-kept (unawaited S j) S j b in
-          record {
-            fine = changed-fine (unawaited S j) S (q .fine) j b wr;
+          let d = desk-same (unawaited (now .store) j) (now .store) j b in
+          let k = changed-kept (unawaited (now .store) j) (now .store) j b in
+          let m = changed-marks b u g w (unawaited (now .store) j) refl in
+          let y : not (unawaited (now .store) j) ≡ awaited (now .history) v = ap not (unawaited-is q j v here) ∙ Bool·not-not (awaited (now .history) v) in
+          subst (λ (x : Bool). Inv (versionsMove now (changed (now .store) j b) g (set (now .table) j u) (shelves x))) y
+          (record {
+            fine = changed-fine (unawaited (now .store) j) (now .store) (q .fine) j b wr;
             past = pg;
             isN = ap (λ (x : Desk). x .n) d ∙ q .isN;
             isT = k .slots ∙ q .isT;
             isR = k .entries ∙ q .isR;
             last = ap (λ (x : Desk). x .last) d ∙ q .last ∙ sym eg;
-            slots = length-set gt j u ∙ q .slots;
-            entries = shelves-length (awaited h v);
+            slots = length-set (now .table) j u ∙ q .slots;
+            entries = shelves-length (not (unawaited (now .store) j));
             seats = q .seats;
             seated = rw er (q .seated);
-            cards = λ i hi. subst (λ (x : Desk). SeatOK (getD (x .cards) i idle) (getD sc i none)) (sym d) (q .cards i hi);
-            marks = subst (λ (x : Desk). Marks (x .masks) (aw sc) (placeIn (t + r) sc) t (changedBy (unawaited S j) S j b .table) (changedBy (unawaited S j) S j b .shelf) (set gt j u) (shelves (awaited h v))) (sym d)
-                (subst (λ (x : Bool). Marks (S .desk .masks) (aw sc) (placeIn (t + r) sc) t (changedBy (unawaited S j) S j b .table) (changedBy (unawaited S j) S j b .shelf) (set gt j u) (shelves x))
-                (ap not (unawaited-is n t r S h gt gs sc q j v here) ∙ twice (awaited h v)) (changed-marks b u w (unawaited S j) refl));
+            cards = λ i hi. subst (λ (x : Desk). SeatOK (getD (x .cards) i idle) (getD (now .seats) i none)) (sym d) (q .cards i hi);
+            tableMarks = m .0;
+            shelfMarks = m .1;
             tabled = tab;
-            shelved = shelves-needed g er el;
-          }
-        where
-          twice : (b : Bool) → not (not b) ≡ b
-          twice true = refl
-          twice false = refl
+            shelved = subst (λ (x : Bool). Permutation (standing (shelves x)) (needed g)) (sym y) (shelves-needed g er el);
+          })
 
       pub modify-keeps : (b : List ℕ) → v .number < 4294967296 → length b ≡ 52 → All Byte b
-          → Inv n t r (changedBy (unawaited S j) S j (some b)) (modified h (v .number) b) (set gt j (some (version (v .number) b (h .changes)))) (shelves (awaited h v)) sc
+          → Inv (versionsMove now (changed (now .store) j (some b)) (modified (now .history) (v .number) b) (set (now .table) j (some (version (v .number) b (now .history .changes)))) (shelves (awaited (now .history) v)))
       modify-keeps b small len bytes =
-          let u : Version = version (v .number) b (h .changes) in
-          changed-keeps (some b) (some u) (len, bytes) refl (modified h (v .number) b) (modified-past h (q .past) (v .number) b small) refl refl refl
-          (Permutation.both (subst (λ (l : List (Option Version)). Permutation (standing l) (u ∷ standing (set gt j none))) (set-set gt j none (some u))
-          (standing-taken (set gt j none) j u (getD-set-same gt j none none hj) (omega (arith, hj, length-set gt j none)))) (Permutation.next remains))
+          let u : Version = version (v .number) b (now .history .changes) in
+          changed-keeps (some b) (some u) (len, bytes) refl (modified (now .history) (v .number) b) (modified-past (now .history) (q .past) (v .number) b small) refl refl refl
+          (Permutation.both (subst (λ (l : List (Option Version)). Permutation (standing l) (u ∷ standing (set (now .table) j none))) (set-set (now .table) j none (some u))
+          (standing-taken (set (now .table) j none) j u (getD-set-same (now .table) j none none hj) (omega (arith, hj, length-set (now .table) j none)))) (Permutation.next remains))
 
-      pub delete-keeps : Inv n t r (changedBy (unawaited S j) S j none) (deleted h (v .number)) (set gt j none) (shelves (awaited h v)) sc
-      delete-keeps = changed-keeps none none tt tt (deleted h (v .number)) (deleted-past h (q .past) (v .number)) refl refl refl remains
+      pub delete-keeps : Inv (versionsMove now (changed (now .store) j none) (deleted (now .history) (v .number)) (set (now .table) j none) (shelves (awaited (now .history) v)))
+      delete-keeps = changed-keeps none none tt tt (deleted (now .history) (v .number)) (deleted-past (now .history) (q .past) (v .number)) refl refl refl remains

@@ -1,6 +1,6 @@
 -- What tally and owed count.
 use mathlib.Core.Path.{_≡_, refl, sym, ap, _∙_, subst}
-use mathlib.Core.Bool.{Bool, true, false, not, _&&_, cond}
+use mathlib.Core.Bool.{Bool, true, false, not, _&&_, cond, Bool·not-not}
 use mathlib.Core.Option.{Option, none, some}
 use mathlib.Core.List.{List, [], _∷_, _++_, List·Memᴰ·head, List·Memᴰ·tail, List·Memᴰ·cases-cons, List·Memᴰ·not-nil}
 use mathlib.Core.Logic.{_⊎_, inl, inr}
@@ -9,16 +9,17 @@ use native.Mathlib.Omega.{arith}
 use lib.Dec.{eqb, ltb}
 use lib.ListN.{length, getD, length-append}
 use borrow.Author.Tests.{eqb-false, eq-eqb, ne-eqb}
-use Rattle.demands.specs.History.{Version, Scan, History, awaits, awaited, needed, waiting}
+use Rattle.demands.specs.History.{Version, Scan, awaits, awaited, needed, waiting}
 use Rattle.demands.specs.Lists.{those, standing}
 use Rattle.demands.specs.Masks.{oneIf}
 use Rattle.demands.specs.RuleOfNext.{stillToCome}
 use Rattle.rules.specs.Calls.{slotIn, inUse, count, used, owedBy}
 use Rattle.rules.specs.Masks.{bit, off}
-use Rattle.rules.specs.Memory.{Slot, Store, T}
+use Rattle.rules.specs.Memory.{Slot, T}
 use Rattle.rules.proofs.Bits.{bit-low, bit-xor}
 use Rattle.demands.proofs.lists.Apart.{Apart, apart-those}
-use Rattle.demands.proofs.invariant.Invariant.{awaitsO, NumberOK, Inv, table-numbers, shelf-numbers, gt-length, gs-length, runs-at, position, seat, busy, slot-of, entry-of, live-at, beyond}
+use Rattle.demands.proofs.invariant.Invariant.{NumberOK, Inv, table-numbers, shelf-numbers, gt-length, gs-length, runs-at, position, seat, busy, slot-of, entry-of, live-at, beyond}
+use Rattle.demands.proofs.invariant.Moment.{Moment, aw, aw-at}
 use Rattle.demands.proofs.lists.Lists.{In, in-left, in-right, in-cases, any-in, those-in, in-those, those-none, those-those, those-same, perm-length, perm-those}
 use Rattle.demands.proofs.history.Past.{ever, numberOf, changeOf, awaited-began}
 use Rattle.demands.proofs.lists.Places.{At}
@@ -74,7 +75,7 @@ module _ {A : Type 0} where
           go (inl e) = absurd (d e)
           go (inr j) = in-right a f b j
 
-module _ (n t r : ℕ) (S : Store) (h : History) (gt gs : List (Option Version)) (sc : List (Option Scan)) (q : Inv n t r S h gt gs sc) where
+module _ {now : Moment} (q : Inv now) where
   use-agrees : (s : Slot) (o : Option Version) → NumberOK s o → Agrees inUse (λ v. true) s o
   use-agrees s none w = rw w refl
   use-agrees s (some v) w = rw (ne-eqb (s .number) 0 (λ z. let y : 1 ≤ s .number = w .1 in omega arith)) refl
@@ -83,30 +84,27 @@ module _ (n t r : ℕ) (S : Store) (h : History) (gt gs : List (Option Version))
   all-pass [] = refl
   all-pass (v ∷ l) = ap (λ (m : List Version). v ∷ m) (all-pass l)
 
-  pub records-are : used (S .table) ≡ length (h .live)
+  pub records-are : used (now .store .table) ≡ length (now .history .live)
   records-are =
-      count-is inUse (λ v. true) (S .table) gt (gt-length n t r S h gt gs sc q) (λ i k. use-agrees (slotIn (S .table) i) (getD gt i none) (table-numbers n t r S h gt gs sc q i))
-      ∙ ap length (all-pass (standing gt)) ∙ perm-length (standing gt) (h .live) (q .tabled)
+      count-is inUse (λ v. true) (now .store .table) (now .table) (gt-length q) (λ i k. use-agrees (slotIn (now .store .table) i) (getD (now .table) i none) (table-numbers q i))
+      ∙ ap length (all-pass (standing (now .table))) ∙ perm-length (standing (now .table)) (now .history .live) (q .tabled)
 
-  pub entries-are : used (S .shelf) ≡ length (needed h)
+  pub entries-are : used (now .store .shelf) ≡ length (needed (now .history))
   entries-are =
-      count-is inUse (λ v. true) (S .shelf) gs (gs-length n t r S h gt gs sc q) (λ i k. use-agrees (slotIn (S .shelf) i) (getD gs i none) (shelf-numbers n t r S h gt gs sc q i))
-      ∙ ap length (all-pass (standing gs)) ∙ perm-length (standing gs) (needed h) (q .shelved)
+      count-is inUse (λ v. true) (now .store .shelf) (now .shelf) (gs-length q) (λ i k. use-agrees (slotIn (now .store .shelf) i) (getD (now .shelf) i none) (shelf-numbers q i))
+      ∙ ap length (all-pass (standing (now .shelf))) ∙ perm-length (standing (now .shelf)) (needed (now .history)) (q .shelved)
 
   -- ---- what a scan is owed
 
-  module _ (p : ℕ) (s : Scan) (here : At sc p s) where
+  module _ (p : ℕ) (s : Scan) (here : At (now .seats) p s) where
     hp : p < 64
-    hp = position n t r S h gt gs sc q p s here
+    hp = position q p s here
 
-    runs : In s (h .running)
-    runs = runs-at n t r S h gt gs sc q p s here
-
-    here-aw : (v : Version) → awaitsO (getD sc p none) v ≡ awaits s v
-    here-aw v = ap (λ (o : Option Scan). awaitsO o v) here
+    runs : In s (now .history .running)
+    runs = runs-at q p s here
 
     abbrev inTable : Slot → Bool
-    inTable x = inUse x && eqb (bit (x .mask) p) (bit (S .desk .masks .stable) p)
+    inTable x = inUse x && eqb (bit (x .mask) p) (bit (now .store .desk .masks .stable) p)
 
     abbrev onShelf : Slot → Bool
     onShelf x = inUse x && off (x .mask) p
@@ -122,37 +120,37 @@ module _ (n t r : ℕ) (S : Store) (h : History) (gt gs : List (Option Version))
     equal-bits x y hx hy true e = ne-eqb x y (λ z. omega arith)
     equal-bits x y hx hy false e = eq-eqb x y (omega arith)
 
-    local-is : off (S .desk .masks .local) p ≡ ltb (s .looks) t
-    local-is = sym (busy n t r S h gt gs sc q p s here .local) ∙ ap (λ (x : ℕ). ltb x (T S)) (seat n t r S h gt gs sc q p s here .place) ∙ ap (ltb (s .looks)) (q .isT)
+    local-is : off (now .store .desk .masks .local) p ≡ ltb (s .looks) (now .t)
+    local-is = sym (busy q p s here .local) ∙ ap (λ (x : ℕ). ltb x (T (now .store))) (seat q p s here .place) ∙ ap (ltb (s .looks)) (q .isT)
 
-    table-agrees : (i : ℕ) (o : Option Version) → getD gt i none ≡ o → Agrees inTable (λ v. not (ltb (s .looks) t && not (awaits s v))) (slotIn (S .table) i) o
-    table-agrees i none e = not-in-use (slotIn (S .table) i) (subst (NumberOK (slotIn (S .table) i)) e (table-numbers n t r S h gt gs sc q i)) (eqb (bit (slotIn (S .table) i .mask) p) (bit (S .desk .masks .stable) p))
+    table-agrees : (i : ℕ) (o : Option Version) → getD (now .table) i none ≡ o → Agrees inTable (λ v. not (ltb (s .looks) (now .t) && not (awaits s v))) (slotIn (now .store .table) i) o
+    table-agrees i none e = not-in-use (slotIn (now .store .table) i) (subst (NumberOK (slotIn (now .store .table) i)) e (table-numbers q i)) (eqb (bit (slotIn (now .store .table) i .mask) p) (bit (now .store .desk .masks .stable) p))
     table-agrees i (some v) e =
-        let w = slot-of n t r S h gt gs sc q i v e in
-        in-use (slotIn (S .table) i) (w .some) (eqb (bit (slotIn (S .table) i .mask) p) (bit (S .desk .masks .stable) p))
-        ∙ equal-bits (bit (slotIn (S .table) i .mask) p) (bit (S .desk .masks .stable) p) (bit-low (slotIn (S .table) i .mask) p) (bit-low (S .desk .masks .stable) p) (ltb (s .looks) t && not (awaits s v))
-        (sym (bit-xor (S .desk .masks .stable) (slotIn (S .table) i .mask) p) ∙ w .bits p hp ∙ ap (λ (b : Bool). oneIf (b && not (awaitsO (getD sc p none) v))) local-is ∙ ap (λ (b : Bool). oneIf (ltb (s .looks) t && not b)) (here-aw v))
+        let w = slot-of q i v e in
+        in-use (slotIn (now .store .table) i) (w .some) (eqb (bit (slotIn (now .store .table) i .mask) p) (bit (now .store .desk .masks .stable) p))
+        ∙ equal-bits (bit (slotIn (now .store .table) i .mask) p) (bit (now .store .desk .masks .stable) p) (bit-low (slotIn (now .store .table) i .mask) p) (bit-low (now .store .desk .masks .stable) p) (ltb (s .looks) (now .t) && not (awaits s v))
+        (sym (bit-xor (now .store .desk .masks .stable) (slotIn (now .store .table) i .mask) p) ∙ w .bits p hp ∙ ap (λ (b : Bool). oneIf (b && not (aw now p v))) local-is ∙ ap (λ (b : Bool). oneIf (ltb (s .looks) (now .t) && not b)) (aw-at now p s here v))
 
-    shelf-agrees : (i : ℕ) (o : Option Version) → getD gs i none ≡ o → Agrees onShelf (awaits s) (slotIn (S .shelf) i) o
-    shelf-agrees i none e = not-in-use (slotIn (S .shelf) i) (subst (NumberOK (slotIn (S .shelf) i)) e (shelf-numbers n t r S h gt gs sc q i)) (off (slotIn (S .shelf) i .mask) p)
+    shelf-agrees : (i : ℕ) (o : Option Version) → getD (now .shelf) i none ≡ o → Agrees onShelf (awaits s) (slotIn (now .store .shelf) i) o
+    shelf-agrees i none e = not-in-use (slotIn (now .store .shelf) i) (subst (NumberOK (slotIn (now .store .shelf) i)) e (shelf-numbers q i)) (off (slotIn (now .store .shelf) i .mask) p)
     shelf-agrees i (some v) e =
-        let w = entry-of n t r S h gt gs sc q i v e in
-        in-use (slotIn (S .shelf) i) (w .some) (off (slotIn (S .shelf) i .mask) p) ∙ ap (λ (x : ℕ). eqb x 0) (w .bits p hp ∙ ap (λ (b : Bool). oneIf (not b)) (here-aw v)) ∙ go (awaits s v)
+        let w = entry-of q i v e in
+        in-use (slotIn (now .store .shelf) i) (w .some) (off (slotIn (now .store .shelf) i .mask) p) ∙ ap (λ (x : ℕ). eqb x 0) (w .bits p hp ∙ ap (λ (b : Bool). oneIf (not b)) (aw-at now p s here v)) ∙ go (awaits s v)
       where
         go : (b : Bool) → eqb (oneIf (not b)) 0 ≡ b
         go true = refl
         go false = refl
 
     -- what is awaited is in the table or on the shelf, each version once
-    waiting-is : length (those (awaits s) (h .live)) + length (those (awaits s) (h .left)) ≡ length (waiting s)
+    waiting-is : length (those (awaits s) (now .history .live)) + length (those (awaits s) (now .history .left)) ≡ length (waiting s)
     waiting-is =
-        let a : length (those (awaits s) (ever h)) ≤ length (waiting s) =
-        no-more changeOf (those (awaits s) (ever h)) (waiting s) (apart-those changeOf (awaits s) (ever h) (q .past .names))
-        (λ v i. let w = those-in (awaits s) (ever h) v i in in-those (awaits s) (s .began) v (awaited-began h (q .past) s runs v (w .0) (w .1)) (w .1)) in
-        let b : length (waiting s) ≤ length (those (awaits s) (ever h)) =
-        no-more numberOf (waiting s) (those (awaits s) (ever h)) (apart-those numberOf (awaits s) (s .began) (q .past .scans s runs .numbers))
-        (λ v i. let w = those-in (awaits s) (s .began) v i in in-those (awaits s) (ever h) v (q .past .scans s runs .from v (w .0)) (w .1)) in
-        let c : length (those (awaits s) (ever h)) ≡ length (those (awaits s) (h .live)) + length (those (awaits s) (h .left)) = ap length (those-append (h .live) (h .left)) ∙ length-append (those (awaits s) (h .live)) (those (awaits s) (h .left)) in
+        let a : length (those (awaits s) (ever (now .history))) ≤ length (waiting s) =
+        no-more changeOf (those (awaits s) (ever (now .history))) (waiting s) (apart-those changeOf (awaits s) (ever (now .history)) (q .past .names))
+        (λ v i. let w = those-in (awaits s) (ever (now .history)) v i in in-those (awaits s) (s .began) v (awaited-began (now .history) (q .past) s runs v (w .0) (w .1)) (w .1)) in
+        let b : length (waiting s) ≤ length (those (awaits s) (ever (now .history))) =
+        no-more numberOf (waiting s) (those (awaits s) (ever (now .history))) (apart-those numberOf (awaits s) (s .began) (q .past .scans s runs .numbers))
+        (λ v i. let w = those-in (awaits s) (s .began) v i in in-those (awaits s) (ever (now .history)) v (q .past .scans s runs .from v (w .0)) (w .1)) in
+        let c : length (those (awaits s) (ever (now .history))) ≡ length (those (awaits s) (now .history .live)) + length (those (awaits s) (now .history .left)) = ap length (those-append (now .history .live) (now .history .left)) ∙ length-append (those (awaits s) (now .history .live)) (those (awaits s) (now .history .left)) in
         omega arith
       where
         those-append : (l m : List Version) → those (awaits s) (l ++ m) ≡ those (awaits s) l ++ those (awaits s) m
@@ -163,32 +161,28 @@ module _ (n t r : ℕ) (S : Store) (h : History) (gt gs : List (Option Version))
             go true e = ap (λ (x : List Version). v ∷ x) e
             go false e = e
 
-    shelf-count : count onShelf (S .shelf) ≡ length (those (awaits s) (h .left))
+    shelf-count : count onShelf (now .store .shelf) ≡ length (those (awaits s) (now .history .left))
     unfolding awaited
     shelf-count =
-        count-is onShelf (awaits s) (S .shelf) gs (gs-length n t r S h gt gs sc q) (λ i k. shelf-agrees i (getD gs i none) refl)
-        ∙ perm-length (those (awaits s) (standing gs)) (those (awaits s) (needed h)) (perm-those (awaits s) (standing gs) (needed h) (q .shelved))
-        ∙ ap length (those-those (awaited h) (awaits s) (h .left) (λ v e. any-in (λ u. awaits u v) (h .running) s runs e))
+        count-is onShelf (awaits s) (now .store .shelf) (now .shelf) (gs-length q) (λ i k. shelf-agrees i (getD (now .shelf) i none) refl)
+        ∙ perm-length (those (awaits s) (standing (now .shelf))) (those (awaits s) (needed (now .history))) (perm-those (awaits s) (standing (now .shelf)) (needed (now .history)) (q .shelved))
+        ∙ ap length (those-those (awaited (now .history)) (awaits s) (now .history .left) (λ v e. any-in (λ u. awaits u v) (now .history .running) s runs e))
 
-    table-count : count inTable (S .table) ≡ length (those (λ v. not (ltb (s .looks) t && not (awaits s v))) (h .live))
+    table-count : count inTable (now .store .table) ≡ length (those (λ v. not (ltb (s .looks) (now .t) && not (awaits s v))) (now .history .live))
     table-count =
-        count-is inTable (λ v. not (ltb (s .looks) t && not (awaits s v))) (S .table) gt (gt-length n t r S h gt gs sc q) (λ i k. table-agrees i (getD gt i none) refl)
-        ∙ perm-length _ _ (perm-those (λ v. not (ltb (s .looks) t && not (awaits s v))) (standing gt) (h .live) (q .tabled))
+        count-is inTable (λ v. not (ltb (s .looks) (now .t) && not (awaits s v))) (now .store .table) (now .table) (gt-length q) (λ i k. table-agrees i (getD (now .table) i none) refl)
+        ∙ perm-length _ _ (perm-those (λ v. not (ltb (s .looks) (now .t) && not (awaits s v))) (standing (now .table)) (now .history .live) (q .tabled))
 
     -- past its table walk nothing in the table is awaited
-    none-live : ltb (s .looks) t ≡ false → length (those (awaits s) (h .live)) ≡ 0
+    none-live : ltb (s .looks) (now .t) ≡ false → length (those (awaits s) (now .history .live)) ≡ 0
     none-live e =
-        ap length (those-none (awaits s) (h .live)
-        (λ v i. let w = live-at n t r S h gt gs sc q v i in
-        sym (here-aw v) ∙ beyond n t r S h gt gs sc q (w .0) v (w .1) p hp (omega (arith, bit-low (S .desk .masks .local) p, eqb-false (bit (S .desk .masks .local) p) 0 (local-is ∙ e)))))
+        ap length (those-none (awaits s) (now .history .live)
+        (λ v i. let w = live-at q v i in
+        sym (aw-at now p s here v) ∙ beyond q (w .0) v (w .1) p hp (omega (arith, bit-low (now .store .desk .masks .local) p, eqb-false (bit (now .store .desk .masks .local) p) 0 (local-is ∙ e)))))
 
-    pub owed-is : owedBy S p ≡ stillToCome t h s
-    owed-is = rw (table-count, shelf-count) (go (ltb (s .looks) t) refl)
+    pub owed-is : owedBy (now .store) p ≡ stillToCome (now .t) (now .history) s
+    owed-is = rw (table-count, shelf-count) (go (ltb (s .looks) (now .t)) refl)
       where
-        go : (b : Bool) → ltb (s .looks) t ≡ b → length (those (λ v. not (b && not (awaits s v))) (h .live)) + length (those (awaits s) (h .left)) ≡ cond b (length (waiting s)) (length (h .live) + length (waiting s))
-        go true e = rw (those-same (λ v. not (not (awaits s v))) (awaits s) (h .live) (λ v i. twice (awaits s v))) waiting-is
-          where
-            twice : (b : Bool) → not (not b) ≡ b
-            twice true = refl
-            twice false = refl
-        go false e = rw (all-pass (h .live)) (omega (arith, waiting-is, none-live e))
+        go : (b : Bool) → ltb (s .looks) (now .t) ≡ b → length (those (λ v. not (b && not (awaits s v))) (now .history .live)) + length (those (awaits s) (now .history .left)) ≡ cond b (length (waiting s)) (length (now .history .live) + length (waiting s))
+        go true e = rw (those-same (λ v. not (not (awaits s v))) (awaits s) (now .history .live) (λ v i. Bool·not-not (awaits s v))) waiting-is
+        go false e = rw (all-pass (now .history .live)) (omega (arith, waiting-is, none-live e))

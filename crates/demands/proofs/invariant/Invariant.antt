@@ -1,77 +1,72 @@
--- What holds between calls: the store, the history, and which version stands in which slot and entry, which scan at which position.
+-- What holds between calls, at every moment of a store.
 use mathlib.Core.Path.{_≡_, refl, sym, ap, _∙_, subst}
 use mathlib.Core.Bool.{Bool, true, false, not, false≢true}
 use mathlib.Core.Option.{Option, none, some}
 use mathlib.Core.List.{List}
 use mathlib.Core.Logic.{inl, inr}
-use Prim.Native.Nat.{ℕ, _+_, _^_, _≤_, _<_}
+use Prim.Native.Nat.{ℕ, _^_, _≤_, _<_}
 use native.Mathlib.Omega.{arith}
 use lib.Dec.{eqb, ltb, leb}
 use lib.ListN.{length, getD}
-use borrow.Author.Tests.{ltb-true, ltb-false, eqb-true, eq-eqb, le-leb, lt-leb}
-use Rattle.demands.specs.History.{Version, Scan, History, awaits, awaited, needed}
+use borrow.Author.Tests.{ltb-true, ltb-false, eqb-true, eq-eqb, le-leb, lt-leb, eqb-false}
+use Rattle.demands.specs.History.{Version, Scan, awaits, awaited, needed}
 use Rattle.demands.specs.Lists.{any, standing, Permutation}
 use Rattle.demands.specs.Masks.{oneIf, waitsFor}
 use Rattle.rules.specs.declared.Card.{Card}
 use Rattle.rules.specs.Calls.{slotIn, bearing, emptySlot, cardOf, mAt, unawaited}
 use Rattle.rules.specs.Masks.{bit}
-use Rattle.rules.specs.Memory.{Slot, Store, T, R}
+use Rattle.rules.specs.Memory.{Slot, T, R}
 use Rattle.rules.proofs.First.{first-found, first-lowest}
 use Rattle.stores.proofs.ChangesFine.{m-small}
 use Rattle.demands.proofs.lists.Lists.{In, any-in, in-any, those-in, in-those, back, perm-in, perm-length}
 use Rattle.stores.proofs.LooksFine.{BusyAt, ticket-busy}
-use Rattle.demands.proofs.invariant.Marks.{SlotIs, EntryIs, SlotOK, EntryOK, Marks, slot-at, entry-at, m-means, ones-none, some-zero}
+use Rattle.demands.proofs.invariant.Marks.{Is, OK, Marked, is-at, m-means, ones-none, some-zero}
+use Rattle.demands.proofs.invariant.Moment.{Moment, looksO, end, aw, placeIn, Row, tableOf, shelfOf}
 use Rattle.stores.proofs.OnePosition.{Fine, n-most}
 use Rattle.demands.proofs.history.Past.{Past}
 use Rattle.demands.proofs.lists.Places.{At, at-below, at-standing, standing-at, room-less, full-all}
 use Rattle.stores.proofs.SoundDesk.{Idle, CardSound}
-
-abbrev pub awaitsO : Option Scan → Version → Bool
-awaitsO o v = waitsFor o v
-
-abbrev pub looksO : ℕ → Option Scan → ℕ
-looksO end none = end
-looksO end (some s) = s .looks
 
 -- the scan at a position, and its card
 pub record Seated (c : Card) (s : Scan) : Type 0 where
   pub ticket : c .ticket .0 ≡ s .ticket
   pub place : c .place ≡ s .looks
   pub handed : c .handed ≡ length (s .handed)
+  pub rest : c .rest ≡ 0
 
 abbrev pub SeatOK : Card → Option Scan → Type 0
 SeatOK c none = c .ticket .0 ≡ 0
 SeatOK c (some s) = Seated c s
 
--- the scan at position i awaits v
-abbrev pub aw : List (Option Scan) → ℕ → Version → Bool
-aw sc i v = awaitsO (getD sc i none) v
-
-abbrev pub placeIn : ℕ → List (Option Scan) → ℕ → ℕ
-placeIn end sc i = looksO end (getD sc i none)
-
--- N, T and R; the versions in slots gt and entries gs; the scans at positions sc
-pub record Inv (n t r : ℕ) (S : Store) (h : History) (gt gs : List (Option Version)) (sc : List (Option Scan)) : Type 0 where
-  pub fine : Fine S
-  pub past : Past h
-  pub isN : S .desk .n ≡ n
-  pub isT : T S ≡ t
-  pub isR : R S ≡ r
-  pub last : S .desk .last ≡ h .given
-  pub slots : length gt ≡ t
-  pub entries : length gs ≡ r
-  pub seats : length sc ≡ n
-  pub seated : Permutation (standing sc) (h .running)
-  pub cards : (i : ℕ) → i < 64 → SeatOK (cardOf S i) (getD sc i none)
-  pub marks : Marks (S .desk .masks) (aw sc) (placeIn (t + r) sc) t (S .table) (S .shelf) gt gs
-  pub tabled : Permutation (standing gt) (h .live)
-  pub shelved : Permutation (standing gs) (needed h)
+pub record Inv (m : Moment) : Type 0 where
+  pub fine : Fine (m .store)
+  pub past : Past (m .history)
+  pub isN : m .store .desk .n ≡ m .n
+  pub isT : T (m .store) ≡ m .t
+  pub isR : R (m .store) ≡ m .r
+  pub last : m .store .desk .last ≡ m .history .given
+  pub slots : length (m .table) ≡ m .t
+  pub entries : length (m .shelf) ≡ m .r
+  pub seats : length (m .seats) ≡ m .n
+  pub seated : Permutation (standing (m .seats)) (m .history .running)
+  pub cards : (i : ℕ) → i < 64 → SeatOK (cardOf (m .store) i) (getD (m .seats) i none)
+  pub tableMarks : Marked m (tableOf m)
+  pub shelfMarks : Marked m (shelfOf m)
+  pub tabled : Permutation (standing (m .table)) (m .history .live)
+  pub shelved : Permutation (standing (m .shelf)) (needed (m .history))
 
 -- ---- slots and the versions that they spell, by number alone
 
 abbrev pub NumberOK : Slot → Option Version → Type 0
 NumberOK s none = s .number ≡ 0
 NumberOK s (some v) = (s .number ≡ v .number) × (1 ≤ s .number)
+
+numbers : (m : Moment) (w : Row) → Marked m w → (i : ℕ) → NumberOK (slotIn (w .slots) i) (getD (w .versions) i none)
+numbers m w h i = go (getD (w .versions) i none) (h i)
+  where
+    go : (o : Option Version) → OK m w i (slotIn (w .slots) i) o → NumberOK (slotIn (w .slots) i) o
+    go none e = ap (λ (s : Slot). s .number) e
+    go (some v) x = (x .number, x .some)
 
 module _ (l : List Slot) (g : List (Option Version)) (len : length g ≡ length l) (ok : (i : ℕ) → NumberOK (slotIn l i) (getD g i none)) where
   numbered-at : (i : ℕ) (o : Option Version) → getD g i none ≡ o → NumberOK (slotIn l i) o
@@ -130,128 +125,126 @@ module _ (l : List Slot) (g : List (Option Version)) (len : length g ≡ length 
 
 -- ---- what follows of the store between calls
 
-module _ (n t r : ℕ) (S : Store) (h : History) (gt gs : List (Option Version)) (sc : List (Option Scan)) (q : Inv n t r S h gt gs sc) where
-  pub n-64 : n ≤ 64
-  n-64 = omega (arith, q .isN, n-most S (q .fine))
+module _ {now : Moment} (q : Inv now) where
+  pub n-64 : now .n ≤ 64
+  n-64 = omega (arith, q .isN, n-most (now .store) (q .fine))
 
-  pub table-numbers : (i : ℕ) → NumberOK (slotIn (S .table) i) (getD gt i none)
-  table-numbers i = go (getD gt i none) (q .marks .slots i)
-    where
-      go : (o : Option Version) → SlotOK (S .desk .masks) (aw sc) (placeIn (t + r) sc) t i (slotIn (S .table) i) o → NumberOK (slotIn (S .table) i) o
-      go none e = ap (λ (s : Slot). s .number) e
-      go (some v) w = (w .number, w .some)
+  pub table-numbers : (i : ℕ) → NumberOK (slotIn (now .store .table) i) (getD (now .table) i none)
+  table-numbers = numbers now (tableOf now) (q .tableMarks)
 
-  pub shelf-numbers : (i : ℕ) → NumberOK (slotIn (S .shelf) i) (getD gs i none)
-  shelf-numbers i = go (getD gs i none) (q .marks .entries i)
-    where
-      go : (o : Option Version) → EntryOK (S .desk .masks) (aw sc) (placeIn (t + r) sc) t i (slotIn (S .shelf) i) o → NumberOK (slotIn (S .shelf) i) o
-      go none e = ap (λ (s : Slot). s .number) e
-      go (some v) w = (w .number, w .some)
+  pub shelf-numbers : (i : ℕ) → NumberOK (slotIn (now .store .shelf) i) (getD (now .shelf) i none)
+  shelf-numbers = numbers now (shelfOf now) (q .shelfMarks)
 
-  pub gt-length : length gt ≡ length (S .table)
+  pub gt-length : length (now .table) ≡ length (now .store .table)
   gt-length = q .slots ∙ sym (q .isT)
 
-  pub gs-length : length gs ≡ length (S .shelf)
+  pub gs-length : length (now .shelf) ≡ length (now .store .shelf)
   gs-length = q .entries ∙ sym (q .isR)
+
+  pub ticket-left : eqb (now .store .desk .last) 4294967295 ≡ false → now .history .given < 4294967295
+  ticket-left e = go (now .store .desk .last) (now .history .given) (q .last) (q .fine .sized .desk .last) (eqb-false _ _ e)
+    where
+      go : (x y : ℕ) → x ≡ y → x < 4294967296 → (x ≡ 4294967295 → ⊥) → y < 4294967295
+      go x y e l d = omega arith
 
   -- ---- scans and positions
 
-  pub runs-at : (i : ℕ) (s : Scan) → At sc i s → In s (h .running)
-  runs-at i s e = perm-in s (standing sc) (h .running) (q .seated) (at-standing sc i s e)
+  pub runs-at : (i : ℕ) (s : Scan) → At (now .seats) i s → In s (now .history .running)
+  runs-at i s e = perm-in s (standing (now .seats)) (now .history .running) (q .seated) (at-standing (now .seats) i s e)
 
-  pub at-runs : (s : Scan) → In s (h .running) → (i : ℕ) × At sc i s
-  at-runs s m = standing-at sc s (perm-in s (h .running) (standing sc) (back (q .seated)) m)
+  pub at-runs : (s : Scan) → In s (now .history .running) → (i : ℕ) × At (now .seats) i s
+  at-runs s m = standing-at (now .seats) s (perm-in s (now .history .running) (standing (now .seats)) (back (q .seated)) m)
 
-  pub position : (i : ℕ) (s : Scan) → At sc i s → i < 64
-  position i s e = omega (arith, at-below sc i s e, q .seats, n-64)
+  pub position : (i : ℕ) (s : Scan) → At (now .seats) i s → i < 64
+  position i s e = omega (arith, at-below (now .seats) i s e, q .seats, n-64)
 
-  pub seat : (i : ℕ) (s : Scan) → At sc i s → Seated (cardOf S i) s
-  seat i s e = subst (SeatOK (cardOf S i)) e (q .cards i (position i s e))
+  pub seat : (i : ℕ) (s : Scan) → At (now .seats) i s → Seated (cardOf (now .store) i) s
+  seat i s e = subst (SeatOK (cardOf (now .store) i)) e (q .cards i (position i s e))
 
-  pub busy : (i : ℕ) (s : Scan) → At sc i s → BusyAt S i
-  busy i s e = ticket-busy S (q .fine) i (position i s e) (omega (arith, seat i s e .ticket, q .past .scans s (runs-at i s e) .low))
+  pub busy : (i : ℕ) (s : Scan) → At (now .seats) i s → BusyAt (now .store) i
+  busy i s e = ticket-busy (now .store) (q .fine) i (position i s e) (omega (arith, seat i s e .ticket, q .past .scans s (runs-at i s e) .low))
 
   -- a position that seats no scan
-  pub resting : (i : ℕ) → i < 64 → getD sc i none ≡ none → Idle (S .desk .masks) (cardOf S i) i
+  pub resting : (i : ℕ) → i < 64 → getD (now .seats) i none ≡ none → Idle (now .store .desk .masks) (cardOf (now .store) i) i
   resting i hi e = go (q .fine .sound .cards i (omega (arith, q .fine .sized .desk .all)))
     where
-      z : cardOf S i .ticket .0 ≡ 0
-      z = subst (SeatOK (cardOf S i)) e (q .cards i hi)
+      z : cardOf (now .store) i .ticket .0 ≡ 0
+      z = subst (SeatOK (cardOf (now .store) i)) e (q .cards i hi)
 
-      go : CardSound (S .desk .masks) (T S) (R S) (S .desk .last) (cardOf S i) i → Idle (S .desk .masks) (cardOf S i) i
+      go : CardSound (now .store .desk .masks) (T (now .store)) (R (now .store)) (now .store .desk .last) (cardOf (now .store) i) i → Idle (now .store .desk .masks) (cardOf (now .store) i) i
       go (inl x) = x
       go (inr x) = absurd (omega (arith, z, x .ticket))
 
   -- ---- who awaits a version
 
-  pub awaited-at : (v : Version) → awaited h v ≡ true → (i : ℕ) × (i < 64) × (aw sc i v ≡ true)
+  pub awaited-at : (v : Version) → awaited (now .history) v ≡ true → (i : ℕ) × (i < 64) × (aw now i v ≡ true)
   unfolding awaited
   awaited-at v e =
-      let w = in-any (λ s. awaits s v) (h .running) e in
+      let w = in-any (λ s. awaits s v) (now .history .running) e in
       let x = at-runs (w .0) (w .1) in
-      (x .0, position (x .0) (w .0) (x .1), ap (λ (o : Option Scan). awaitsO o v) (x .1) ∙ w .2)
+      (x .0, position (x .0) (w .0) (x .1), ap (λ (o : Option Scan). waitsFor o v) (x .1) ∙ w .2)
 
-  pub at-awaited : (v : Version) (i : ℕ) → aw sc i v ≡ true → awaited h v ≡ true
+  pub at-awaited : (v : Version) (i : ℕ) → aw now i v ≡ true → awaited (now .history) v ≡ true
   unfolding awaited
-  at-awaited v i e = go (getD sc i none) refl
+  at-awaited v i e = go (getD (now .seats) i none) refl
     where
-      go : (o : Option Scan) → getD sc i none ≡ o → any (λ s. awaits s v) (h .running) ≡ true
-      go none d = absurd (false≢true (sym (ap (λ (o : Option Scan). awaitsO o v) d) ∙ e))
-      go (some s) d = any-in (λ s. awaits s v) (h .running) s (runs-at i s d) (sym (ap (λ (o : Option Scan). awaitsO o v) d) ∙ e)
+      go : (o : Option Scan) → getD (now .seats) i none ≡ o → any (λ s. awaits s v) (now .history .running) ≡ true
+      go none d = absurd (false≢true (sym (ap (λ (o : Option Scan). waitsFor o v) d) ∙ e))
+      go (some s) d = any-in (λ s. awaits s v) (now .history .running) s (runs-at i s d) (sym (ap (λ (o : Option Scan). waitsFor o v) d) ∙ e)
 
-  pub not-awaited : (v : Version) → awaited h v ≡ false → (i : ℕ) → aw sc i v ≡ false
-  not-awaited v e i = go (aw sc i v) refl
+  pub not-awaited : (v : Version) → awaited (now .history) v ≡ false → (i : ℕ) → aw now i v ≡ false
+  not-awaited v e i = go (aw now i v) refl
     where
-      go : (b : Bool) → aw sc i v ≡ b → aw sc i v ≡ false
+      go : (b : Bool) → aw now i v ≡ b → aw now i v ≡ false
       go true d = absurd (false≢true (sym e ∙ at-awaited v i d))
       go false d = d
 
   -- ---- versions and where they stand
 
-  pub live-at : (v : Version) → In v (h .live) → (j : ℕ) × At gt j v
-  live-at v m = standing-at gt v (perm-in v (h .live) (standing gt) (back (q .tabled)) m)
+  pub live-at : (v : Version) → In v (now .history .live) → (j : ℕ) × At (now .table) j v
+  live-at v m = standing-at (now .table) v (perm-in v (now .history .live) (standing (now .table)) (back (q .tabled)) m)
 
-  pub at-live : (j : ℕ) (v : Version) → At gt j v → In v (h .live)
-  at-live j v e = perm-in v (standing gt) (h .live) (q .tabled) (at-standing gt j v e)
+  pub at-live : (j : ℕ) (v : Version) → At (now .table) j v → In v (now .history .live)
+  at-live j v e = perm-in v (standing (now .table)) (now .history .live) (q .tabled) (at-standing (now .table) j v e)
 
-  pub at-needed : (k : ℕ) (v : Version) → At gs k v → In v (h .left) × (awaited h v ≡ true)
-  at-needed k v e = those-in (awaited h) (h .left) v (perm-in v (standing gs) (needed h) (q .shelved) (at-standing gs k v e))
+  pub at-needed : (k : ℕ) (v : Version) → At (now .shelf) k v → In v (now .history .left) × (awaited (now .history) v ≡ true)
+  at-needed k v e = those-in (awaited (now .history)) (now .history .left) v (perm-in v (standing (now .shelf)) (needed (now .history)) (q .shelved) (at-standing (now .shelf) k v e))
 
-  pub needed-at : (v : Version) → In v (h .left) → awaited h v ≡ true → (k : ℕ) × At gs k v
-  needed-at v m e = standing-at gs v (perm-in v (needed h) (standing gs) (back (q .shelved)) (in-those (awaited h) (h .left) v m e))
+  pub needed-at : (v : Version) → In v (now .history .left) → awaited (now .history) v ≡ true → (k : ℕ) × At (now .shelf) k v
+  needed-at v m e = standing-at (now .shelf) v (perm-in v (needed (now .history)) (standing (now .shelf)) (back (q .shelved)) (in-those (awaited (now .history)) (now .history .left) v m e))
 
-  pub slot-of : (j : ℕ) (v : Version) → At gt j v → SlotIs (S .desk .masks) (aw sc) (placeIn (t + r) sc) t j (slotIn (S .table) j) v
-  slot-of j v e = slot-at (S .desk .masks) (aw sc) (placeIn (t + r) sc) t (S .table) (S .shelf) gt gs (q .marks) j v e
+  pub slot-of : (j : ℕ) (v : Version) → At (now .table) j v → Is now (tableOf now) j (slotIn (now .store .table) j) v
+  slot-of j v e = is-at now (tableOf now) (q .tableMarks) j v e
 
-  pub entry-of : (k : ℕ) (v : Version) → At gs k v → EntryIs (S .desk .masks) (aw sc) (placeIn (t + r) sc) t k (slotIn (S .shelf) k) v
-  entry-of k v e = entry-at (S .desk .masks) (aw sc) (placeIn (t + r) sc) t (S .table) (S .shelf) gt gs (q .marks) k v e
+  pub entry-of : (k : ℕ) (v : Version) → At (now .shelf) k v → Is now (shelfOf now) k (slotIn (now .store .shelf) k) v
+  entry-of k v e = is-at now (shelfOf now) (q .shelfMarks) k v e
 
   -- past its table walk a scan awaits nothing in the table
-  pub beyond : (j : ℕ) (v : Version) → At gt j v → (i : ℕ) → i < 64 → bit (S .desk .masks .local) i ≡ 1 → aw sc i v ≡ false
-  beyond j v e i hi l = go (getD sc i none) refl
+  pub beyond : (j : ℕ) (v : Version) → At (now .table) j v → (i : ℕ) → i < 64 → bit (now .store .desk .masks .local) i ≡ 1 → aw now i v ≡ false
+  beyond j v e i hi l = go (getD (now .seats) i none) refl
     where
-      go : (o : Option Scan) → getD sc i none ≡ o → aw sc i v ≡ false
-      go none d = ap (λ (o : Option Scan). awaitsO o v) d
+      go : (o : Option Scan) → getD (now .seats) i none ≡ o → aw now i v ≡ false
+      go none d = ap (λ (o : Option Scan). waitsFor o v) d
       go (some s) d =
           let b = busy i s d in
-          let f : ltb (cardOf S i .place) (T S) ≡ false = b .local ∙ rw l refl in
-          let y : T S ≤ cardOf S i .place = ltb-false _ _ f in
-          let z : placeIn (t + r) sc i ≡ s .looks = ap (looksO (t + r)) d in
-          slot-of j v e .passed i hi (omega (arith, at-below gt j v e, q .slots, q .isT, seat i s d .place))
+          let f : ltb (cardOf (now .store) i .place) (T (now .store)) ≡ false = b .local ∙ rw l refl in
+          let y : T (now .store) ≤ cardOf (now .store) i .place = ltb-false _ _ f in
+          let z : placeIn now i ≡ s .looks = ap (looksO (end now)) d in
+          slot-of j v e .passed i hi (omega (arith, at-below (now .table) j v e, q .slots, q .isT, seat i s d .place))
 
   -- bit i of m is 0 exactly where scan i awaits the version
-  pub m-bits : (j : ℕ) (v : Version) → At gt j v → (i : ℕ) → i < 64 → bit (mAt S j) i ≡ oneIf (not (aw sc i v))
-  m-bits j v e = m-means (S .desk .masks) (aw sc) (placeIn (t + r) sc) t j (slotIn (S .table) j) v (beyond j v e) (slot-of j v e)
+  pub m-bits : (j : ℕ) (v : Version) → At (now .table) j v → (i : ℕ) → i < 64 → bit (mAt (now .store) j) i ≡ oneIf (not (aw now i v))
+  m-bits j v e i hi = m-means (now .store .desk .masks) (slotIn (now .store .table) j .mask) i (aw now i v) (beyond j v e i hi) (slot-of j v e .bits i hi)
 
   -- m is all ones exactly where no running scan awaits the version
-  pub unawaited-is : (j : ℕ) (v : Version) → At gt j v → unawaited S j ≡ not (awaited h v)
-  unawaited-is j v e = go (unawaited S j) refl (awaited h v) refl
+  pub unawaited-is : (j : ℕ) (v : Version) → At (now .table) j v → unawaited (now .store) j ≡ not (awaited (now .history) v)
+  unawaited-is j v e = go (unawaited (now .store) j) refl (awaited (now .history) v) refl
     where
-      small : mAt S j < 2 ^ 64
-      small = m-small (S .desk .masks) (slotIn (S .table) j .mask) (q .fine .sized .desk .stable) (q .fine .sized .desk .local) (q .fine .sized .table j .mask)
+      small : mAt (now .store) j < 2 ^ 64
+      small = m-small (now .store .desk .masks) (slotIn (now .store .table) j .mask) (q .fine .sized .desk .stable) (q .fine .sized .desk .local) (q .fine .sized .table j .mask)
 
-      go : (a : Bool) → unawaited S j ≡ a → (b : Bool) → awaited h v ≡ b → unawaited S j ≡ not (awaited h v)
-      go true x true y = let w = awaited-at v y in absurd (false≢true (sym (ones-none (mAt S j) (λ i. aw sc i v) small (m-bits j v e) x (w .0) (w .1)) ∙ w .2))
+      go : (a : Bool) → unawaited (now .store) j ≡ a → (b : Bool) → awaited (now .history) v ≡ b → unawaited (now .store) j ≡ not (awaited (now .history) v)
+      go true x true y = let w = awaited-at v y in absurd (false≢true (sym (ones-none (mAt (now .store) j) (λ i. aw now i v) small (m-bits j v e) x (w .0) (w .1)) ∙ w .2))
       go true x false y = rw (x, y) refl
       go false x true y = rw (x, y) refl
-      go false x false y = let w = some-zero (mAt S j) (λ i. aw sc i v) small (m-bits j v e) x in absurd (false≢true (sym y ∙ at-awaited v (w .0) (w .2)))
+      go false x false y = let w = some-zero (mAt (now .store) j) (λ i. aw now i v) small (m-bits j v e) x in absurd (false≢true (sym y ∙ at-awaited v (w .0) (w .2)))

@@ -1,8 +1,8 @@
 -- A look at the table keeps the invariant, whether it passes or hands out, and whether it is the last of the table walk or not.
-use mathlib.Core.Path.{_≡_, refl, sym, ap, _∙_, subst}
-use mathlib.Core.Bool.{Bool, true, false, not, _&&_, false≢true}
-use mathlib.Core.Option.{Option, none, some, Option·none-ne-some}
-use mathlib.Core.List.{List, [], _∷_, map}
+use mathlib.Core.Path.{_≡_, refl, sym, ap, _∙_}
+use mathlib.Core.Bool.{Bool, true, false, not, _&&_}
+use mathlib.Core.Option.{Option, none, some}
+use mathlib.Core.List.{[], _∷_, map}
 use Prim.Native.Nat.{ℕ, suc, _+_, _<_}
 use native.Mathlib.Omega.{arith}
 use native.Mathlib.Decide.{ℕ-discrete}
@@ -10,25 +10,27 @@ use lib.Bits.{bitXor}
 use lib.Dec.{eqb}
 use lib.ListN.{length, getD, set}
 use lib.Seq.{getD-set-same, getD-set-other}
-use borrow.Author.Tests.{eqb-true, eqb-false, ne-eqb, lt-ltb}
-use Rattle.demands.specs.History.{Version, Scan, History, reads, awaits, awaited, goes}
-use Rattle.demands.specs.Lists.{standing, keep, Permutation}
+use borrow.Author.Tests.{eqb-true, lt-ltb}
+use Rattle.demands.specs.History.{Version, Scan, reads, awaits, awaited}
+use Rattle.demands.specs.Lists.{standing, keep}
 use Rattle.demands.specs.Masks.{oneIf}
 use Rattle.rules.specs.Calls.{slotIn, cardOf}
 use Rattle.rules.specs.Masks.{bit, off, scanMask, Masks, walkEnded, STABLE-FLIP, LCL-ACTIVE-MASK-UPD, STATUS-MASK-SCAN-UPD}
-use Rattle.rules.specs.Memory.{Slot, free, Store, T}
-use Rattle.rules.specs.Next.{moved, turned, inTable, flipped, tableLook}
+use Rattle.rules.specs.Memory.{free, T}
+use Rattle.rules.specs.Next.{turned, inTable, flipped, tableLook}
 use Rattle.rules.proofs.Bits.{bit-low, bit-xor}
 use Rattle.rules.proofs.TableOne.{flip-own, flip-other, set-own, set-other}
 use Rattle.demands.proofs.lists.Apart.{apart-perm, apart-across}
-use Rattle.demands.proofs.history.Awaits.{awaits-gone, awaits-passed}
-use Rattle.demands.proofs.invariant.GoesOn.{seats-on, on-seats, on-seated, on-aw, other-aw, here-aw, on-place, here-place, other-place, on-cards, awaited-same, on-shelved, passed-aw, began-v, handed-other, handed-less}
-use Rattle.demands.proofs.invariant.Invariant.{aw, placeIn, Inv, position, seat, busy, runs-at, at-live, at-needed, slot-of}
-use Rattle.demands.proofs.lists.Lists.{In, in-left, in-right, those-same, back}
+use Rattle.demands.proofs.history.Past.{ever, numberOf, changeOf}
+use Rattle.demands.proofs.invariant.GoesOn.{own, other}
+use Rattle.demands.proofs.invariant.Invariant.{Inv, position, seat, busy, at-live, at-needed, slot-of}
+use Rattle.demands.proofs.invariant.Looks.{passedOn, handedOn, Faces, own-bit, behind, not-here, passed, hit-bit, found, look-passes, aw-else, aw-gone, awaited-else, look-hands}
+use Rattle.demands.proofs.invariant.Marks.{Is, OK, is-still, marked-map}
+use Rattle.demands.proofs.invariant.Moment.{Moment, aw-at, place-at, tableOf, shelfOf}
+use Rattle.demands.proofs.invariant.ScanMoves.{xor-else}
+use Rattle.demands.proofs.lists.Lists.{In, in-left, in-right, back}
+use Rattle.demands.proofs.lists.Places.{At, at-below, one-place, keep-all}
 use Rattle.stores.proofs.LooksFine.{table-fine}
-use Rattle.demands.proofs.invariant.Marks.{SlotIs, EntryIs, SlotOK, slot-moves, entry-moves, marks-map, one-zero, one-one}
-use Rattle.demands.proofs.history.Past.{ever, numberOf, changeOf, passed-past, handed-past}
-use Rattle.demands.proofs.lists.Places.{At, at-below, one-place, keep-all, length-keep}
 use Rattle.stores.proofs.Stays.{table-kept}
 
 -- ---- the masks as a table walk ends, or goes on
@@ -52,239 +54,143 @@ turned-own true m p x a l b f =
     bit-xor (bitXor (m .stable) (scanMask p)) x p ∙ rw (flip-own (m .stable) p, set-own (m .local) p) (omega (arith, bit-low (m .stable) p, bit-low x p, sym (bit-xor (m .stable) x p) ∙ z))
 turned-own false m p x a l b f = rw l b
 
--- ---- the test of a look
+-- its own bit of a status that a look has flipped, and the others
+flipped-own : (x y p : ℕ) → bit (bitXor x y) p ≡ 0 → bit (bitXor x (STATUS-MASK-SCAN-UPD y (scanMask p))) p ≡ 1
+unfolding STATUS-MASK-SCAN-UPD
+flipped-own x y p e = bit-xor x (bitXor y (scanMask p)) p ∙ rw (flip-own y p) (omega (arith, bit-low x p, bit-low y p, sym (bit-xor x y p) ∙ e))
 
-table-hit : (S : Store) (p i : ℕ) → inTable S p i ≡ true → (slotIn (S .table) i .number ≡ 0 → ⊥) × (bit (bitXor (S .desk .masks .stable) (slotIn (S .table) i .mask)) p ≡ 0)
-table-hit S p i e = go (eqb (slotIn (S .table) i .number) 0) refl (off (bitXor (S .desk .masks .stable) (slotIn (S .table) i .mask)) p) refl
-  where
-    go : (a : Bool) → eqb (slotIn (S .table) i .number) 0 ≡ a → (b : Bool) → off (bitXor (S .desk .masks .stable) (slotIn (S .table) i .mask)) p ≡ b
-        → (slotIn (S .table) i .number ≡ 0 → ⊥) × (bit (bitXor (S .desk .masks .stable) (slotIn (S .table) i .mask)) p ≡ 0)
-    go true x b y = absurd (false≢true (sym (rw x refl) ∙ e))
-    go false x true y = (eqb-false _ _ x, eqb-true _ _ y)
-    go false x false y = absurd (false≢true (sym (rw (x, y) refl) ∙ e))
+flipped-other : (y p i : ℕ) → (i ≡ p → ⊥) → bit (STATUS-MASK-SCAN-UPD y (scanMask p)) i ≡ bit y i
+unfolding STATUS-MASK-SCAN-UPD
+flipped-other y p i d = flip-other y p i d
 
-table-pass : (S : Store) (p i : ℕ) → inTable S p i ≡ false → (slotIn (S .table) i .number ≡ 0 → ⊥) → bit (bitXor (S .desk .masks .stable) (slotIn (S .table) i .mask)) p ≡ 1
-table-pass S p i e d = go (off (bitXor (S .desk .masks .stable) (slotIn (S .table) i .mask)) p) refl
-  where
-    go : (b : Bool) → off (bitXor (S .desk .masks .stable) (slotIn (S .table) i .mask)) p ≡ b → bit (bitXor (S .desk .masks .stable) (slotIn (S .table) i .mask)) p ≡ 1
-    go true y = absurd (false≢true (sym e ∙ rw (ne-eqb _ _ d, y) refl))
-    go false y = omega (arith, bit-low (bitXor (S .desk .masks .stable) (slotIn (S .table) i .mask)) p, eqb-false (bit (bitXor (S .desk .masks .stable) (slotIn (S .table) i .mask)) p) 0 y)
-
-module _ (n t r : ℕ) (S : Store) (h : History) (gt gs : List (Option Version)) (sc : List (Option Scan)) (q : Inv n t r S h gt gs sc) (p : ℕ) (s : Scan) (here : At sc p s) (early : s .looks < t) where
+module _ {now : Moment} (q : Inv now) (p : ℕ) (s : Scan) (here : At (now .seats) p s) (early : s .looks < now .t) where
   hp : p < 64
-  hp = position n t r S h gt gs sc q p s here
+  hp = position q p s here
 
-  at-looks : cardOf S p .place ≡ s .looks
-  at-looks = seat n t r S h gt gs sc q p s here .place
+  -- the slot of the look
+  abbrev j : ℕ
+  j = cardOf (now .store) p .place
 
-  in-walk : cardOf S p .place < T S
+  at-looks : cardOf (now .store) p .place ≡ s .looks
+  at-looks = seat q p s here .place
+
+  in-walk : cardOf (now .store) p .place < T (now .store)
   in-walk = omega (arith, at-looks, q .isT)
 
-  walking : off (S .desk .masks .local) p ≡ true
-  walking = sym (busy n t r S h gt gs sc q p s here .local) ∙ lt-ltb _ _ in-walk
+  walking : off (now .store .desk .masks .local) p ≡ true
+  walking = sym (busy q p s here .local) ∙ lt-ltb _ _ in-walk
+
+  faces : Faces now p s (tableOf now) (cardOf (now .store) p .place)
+  faces = record { marked = q .tableMarks; speaks = walking; place = at-looks; apart = λ i z. z }
 
   -- the end of the table walk
   abbrev last : Bool
-  last = eqb (suc (cardOf S p .place)) (T S)
+  last = eqb (suc j) (T (now .store))
 
   abbrev m′ : Masks
-  m′ = turned last (S .desk .masks) p
+  m′ = turned last (now .store .desk .masks) p
 
-  all-passed : last ≡ true → (i : ℕ) → i < length gt → i < s .looks + 1
-  all-passed e i k = let z : suc (cardOf S p .place) ≡ T S = eqb-true _ _ e in omega (arith, at-looks, q .isT, q .slots)
+  all-passed : last ≡ true → (i : ℕ) → i < length (now .table) → i < s .looks + 1
+  all-passed e i k = let z : suc (cardOf (now .store) p .place) ≡ T (now .store) = eqb-true _ _ e in omega (arith, at-looks, q .isT, q .slots)
 
-  -- the scan's own bit, walking
-  own-bit : (i : ℕ) (v : Version) → At gt i v → bit (bitXor (S .desk .masks .stable) (slotIn (S .table) i .mask)) p ≡ oneIf (not (awaits s v))
-  own-bit i v e = slot-of n t r S h gt gs sc q i v e .bits p hp ∙ rw (walking, here-aw n t r S h gt gs sc q p s here 0 [] v) refl
+  stable : (i : ℕ) → i < 64 → (i ≡ p → ⊥) → bit (m′ .stable) i ≡ bit (now .store .desk .masks .stable) i
+  stable i hi d = turned-stable last (now .store .desk .masks) p i d
 
-  -- what stands behind the place is awaited no more
-  behind : (i : ℕ) (v : Version) → At gt i v → i < s .looks → awaits s v ≡ false
-  behind i v e k = sym (here-aw n t r S h gt gs sc q p s here 0 [] v) ∙ slot-of n t r S h gt gs sc q i v e .passed p hp (omega (arith, here-place n t r S h gt gs sc q p s here 0 []))
+  local : (i : ℕ) → i < 64 → (i ≡ p → ⊥) → bit (m′ .local) i ≡ bit (now .store .desk .masks .local) i
+  local i hi d = turned-local last (now .store .desk .masks) p i d
+
+  -- the scan's own bit of a slot that it does not await where the walk ends
+  own-turned : (i : ℕ) (v : Version) → At (now .table) i v → (i < s .looks + 1 → awaits s v ≡ false)
+      → bit (bitXor (m′ .stable) (slotIn (now .store .table) i .mask)) p ≡ oneIf (off (m′ .local) p && not (awaits s v))
+  own-turned i v e f =
+      turned-own last (now .store .desk .masks) p (slotIn (now .store .table) i .mask) (awaits s v) walking (own-bit q p s here faces i v e)
+      (λ z. f (all-passed z i (at-below (now .table) i v e)))
 
   -- ---- passed
 
-  module _ (miss : inTable S p (cardOf S p .place) ≡ false) where
+  module _ (miss : inTable (now .store) p (cardOf (now .store) p .place) ≡ false) where
     -- what stands at the place is not awaited
-    pub table-not-here : (v : Version) → At gt (cardOf S p .place) v → awaits s v ≡ false
-    table-not-here v e =
-        let w = slot-of n t r S h gt gs sc q (cardOf S p .place) v e in
-        flip (awaits s v) (one-one (not (awaits s v)) (sym (own-bit (cardOf S p .place) v e) ∙ table-pass S p (cardOf S p .place) miss (λ z. omega (arith, w .some))))
-      where
-        flip : (b : Bool) → not b ≡ true → b ≡ false
-        flip true f = sym f
-        flip false f = refl
+    pub table-not-here : (v : Version) → At (now .table) (cardOf (now .store) p .place) v → awaits s v ≡ false
+    table-not-here = not-here q p s here faces miss
 
-    passed : (i : ℕ) (v : Version) → At gt i v → i < s .looks + 1 → awaits s v ≡ false
-    passed i v e k = go (ℕ-discrete i (cardOf S p .place))
-      where
-        go : Dec (i ≡ cardOf S p .place) → awaits s v ≡ false
-        go (yes z) = table-not-here v (subst (λ (x : ℕ). At gt x v) z e)
-        go (no z) = behind i v e (less i (cardOf S p .place) (s .looks) at-looks k z)
-          where
-            less : (i c l : ℕ) → c ≡ l → i < l + 1 → (i ≡ c → ⊥) → i < l
-            less i c l e k z = omega arith
+    behind-or-here : (i : ℕ) (v : Version) → At (now .table) i v → i < s .looks + 1 → awaits s v ≡ false
+    behind-or-here = passed q p s here faces miss
 
-    abbrev sc₁ : List (Option Scan)
-    sc₁ = seats-on n t r S h gt gs sc q p s here 1 []
-
-    aw-same : (v : Version) → aw sc₁ p v ≡ awaits s v
-    aw-same v = on-aw n t r S h gt gs sc q p s here 1 [] v ∙ awaits-passed 1 s v
-
-    slots-pass : (i : ℕ) (v : Version) → At gt i v → SlotIs (S .desk .masks) (aw sc) (placeIn (t + r) sc) t i (slotIn (S .table) i) v → SlotIs m′ (aw sc₁) (placeIn (t + r) sc₁) t i (slotIn (S .table) i) v
-    slots-pass i v e w =
-        slot-moves (S .desk .masks) m′ (aw sc) (aw sc₁) (placeIn (t + r) sc) (placeIn (t + r) sc₁) t p
-        (λ x hx d. turned-stable last (S .desk .masks) p x d) (λ x hx d. turned-local last (S .desk .masks) p x d) (other-place n t r S h gt gs sc q p s here 1 [])
-        i (slotIn (S .table) i) (slotIn (S .table) i) v refl refl (λ x hx d. refl) (λ x hx d. other-aw n t r S h gt gs sc q p s here 1 [] v x d)
-        (λ _. rw (aw-same v) (turned-own last (S .desk .masks) p (slotIn (S .table) i .mask) (awaits s v) walking (own-bit i v e) (λ f. passed i v e (all-passed f i (at-below gt i v e)))))
-        (λ _ g. aw-same v ∙ passed i v e (rw (on-place n t r S h gt gs sc q p s here 1 []) at g)) w
-
-    entries-pass : (k : ℕ) (v : Version) → At gs k v → EntryIs (S .desk .masks) (aw sc) (placeIn (t + r) sc) t k (slotIn (S .shelf) k) v → EntryIs m′ (aw sc₁) (placeIn (t + r) sc₁) t k (slotIn (S .shelf) k) v
-    entries-pass k v e w =
-        entry-moves (S .desk .masks) m′ (aw sc) (aw sc₁) (placeIn (t + r) sc) (placeIn (t + r) sc₁) t p
-        (λ x hx d. turned-stable last (S .desk .masks) p x d) (λ x hx d. turned-local last (S .desk .masks) p x d) (other-place n t r S h gt gs sc q p s here 1 [])
-        k (slotIn (S .shelf) k) (slotIn (S .shelf) k) v refl refl (λ x hx d. refl) (λ x hx d. other-aw n t r S h gt gs sc q p s here 1 [] v x d)
-        (λ _. w .bits p hp ∙ ap (λ (b : Bool). oneIf (not b)) (sym (passed-aw n t r S h gt gs sc q p s here 1 v))) (λ _ g. absurd (omega (arith, on-place n t r S h gt gs sc q p s here 1 []))) w
-
-    pub table-pass-keeps : Inv n t r (tableLook false S p (cardOf S p .place) .0) (goes h (s .ticket) 1 []) gt gs sc₁
+    pub table-pass-keeps : Inv (passedOn now p s m′)
     unfolding tableLook
     table-pass-keeps =
-        record {
-          fine = table-fine S (q .fine) p hp (busy n t r S h gt gs sc q p s here) false in-walk;
-          past = passed-past h (q .past) (s .ticket) 1;
-          isN = q .isN;
-          isT = q .isT;
-          isR = q .isR;
-          last = q .last;
-          slots = q .slots;
-          entries = q .entries;
-          seats = on-seats n t r S h gt gs sc q p s here 1 [];
-          seated = on-seated n t r S h gt gs sc q p s here 1 [];
-          cards = on-cards n t r S h gt gs sc q p s here 1 [] (moved (cardOf S p) false)
-              (record { ticket = seat n t r S h gt gs sc q p s here .ticket; place = omega (arith, at-looks); handed = seat n t r S h gt gs sc q p s here .handed });
-          marks = marks-map (S .desk .masks) m′ (aw sc) (aw sc₁) (placeIn (t + r) sc) (placeIn (t + r) sc₁) t (S .table) (S .shelf) gt gs slots-pass entries-pass (q .marks);
-          tabled = q .tabled;
-          shelved = subst (λ (l : List Version). Permutation (standing gs) l)
-              (those-same (awaited h) (awaited (goes h (s .ticket) 1 [])) (h .left) (λ v m. sym (awaited-same n t r S h gt gs sc q p s here 1 [] v (awaits-passed 1 s v)))) (q .shelved);
-        }
+        look-passes q p s here m′ stable local (table-fine (now .store) (q .fine) p hp (busy q p s here) false in-walk) (λ i v e. own-turned i v e (behind-or-here i v e)) behind-or-here
+        (λ k v e g. absurd (omega arith))
 
   -- ---- handed out
 
-  module _ (hit : inTable S p (cardOf S p .place) ≡ true) where
+  module _ (hit : inTable (now .store) p (cardOf (now .store) p .place) ≡ true) where
     -- an awaited version stands at the place
-    pub table-found : (v : Version) × At gt (cardOf S p .place) v × (awaits s v ≡ true)
-    table-found = go (getD gt (cardOf S p .place) none) refl
-      where
-        go : (o : Option Version) → getD gt (cardOf S p .place) none ≡ o → (v : Version) × At gt (cardOf S p .place) v × (awaits s v ≡ true)
-        go none e = absurd (table-hit S p (cardOf S p .place) hit .0 (ap (λ (x : Slot). x .number) (subst (SlotOK (S .desk .masks) (aw sc) (placeIn (t + r) sc) t (cardOf S p .place) (slotIn (S .table) (cardOf S p .place))) e (q .marks .slots (cardOf S p .place)))))
-        go (some v) e = (v, e, flip (awaits s v) (one-zero (not (awaits s v)) (sym (own-bit (cardOf S p .place) v e) ∙ table-hit S p (cardOf S p .place) hit .1)))
-          where
-            flip : (b : Bool) → not b ≡ false → b ≡ true
-            flip true f = refl
-            flip false f = sym f
+    pub table-found : (v : Version) × At (now .table) (cardOf (now .store) p .place) v × (awaits s v ≡ true)
+    table-found = found q p s here faces hit
 
-    abbrev sc₂ : List (Option Scan)
-    sc₂ = seats-on n t r S h gt gs sc q p s here 1 (reads (table-found .0) ∷ [])
+    abbrev v : Version
+    v = table-found .0
 
-    abbrev h₂ : History
-    h₂ = goes h (s .ticket) 1 (reads (table-found .0) ∷ [])
+    live-v : In v (now .history .live)
+    live-v = at-live q j v (table-found .1)
 
-    ever-v : In (table-found .0) (ever h)
-    ever-v = in-left (table-found .0) (h .live) (h .left) (at-live n t r S h gt gs sc q (cardOf S p .place) (table-found .0) (table-found .1))
+    ever-v : In v (ever (now .history))
+    ever-v = in-left v (now .history .live) (now .history .left) live-v
 
-    aw-other : (u : Version) → In u (ever h) → (u ≡ table-found .0 → ⊥) → aw sc₂ p u ≡ awaits s u
-    aw-other u m d = on-aw n t r S h gt gs sc q p s here 1 (reads (table-found .0) ∷ []) u ∙ handed-other n t r S h gt gs sc q p s here 1 (table-found .0) ever-v (table-found .2) u m d
+    -- the moment after it
+    abbrev n : Moment
+    n = handedOn now p s v m′ (set (now .store .table) j (flipped (slotIn (now .store .table) j) p)) (now .store .shelf)
 
-    aw-gone : aw sc₂ p (table-found .0) ≡ false
-    aw-gone = on-aw n t r S h gt gs sc q p s here 1 (reads (table-found .0) ∷ []) (table-found .0) ∙ awaits-gone 1 s (table-found .0)
+    elsewhere : (i : ℕ) (u : Version) → At (now .table) i u → (i ≡ cardOf (now .store) p .place → ⊥) → u ≡ table-found .0 → ⊥
+    elsewhere i u e d z = d (one-place numberOf (now .table) (apart-perm numberOf (now .history .live) (standing (now .table)) (back (q .tabled)) (q .past .numbers)) i j u v e (table-found .1) (ap numberOf z))
 
-    elsewhere : (i : ℕ) (u : Version) → At gt i u → (i ≡ cardOf S p .place → ⊥) → u ≡ table-found .0 → ⊥
-    elsewhere i u e d z = d (one-place numberOf gt (apart-perm numberOf (h .live) (standing gt) (back (q .tabled)) (q .past .numbers)) i (cardOf S p .place) u (table-found .0) e (table-found .1) (ap numberOf z))
+    off-shelf : (u : Version) → In u (now .history .left) → u ≡ table-found .0 → ⊥
+    off-shelf u m z = apart-across changeOf (now .history .live) (now .history .left) (q .past .names) v u live-v m (ap changeOf (sym z))
 
-    off-shelf : (u : Version) → In u (h .left) → u ≡ table-found .0 → ⊥
-    off-shelf u m z = apart-across changeOf (h .live) (h .left) (q .past .names) (table-found .0) u (at-live n t r S h gt gs sc q (cardOf S p .place) (table-found .0) (table-found .1)) m (ap changeOf (sym z))
-
-    -- any slot but the one of the look
-    slots-hit : (i : ℕ) (u : Version) → At gt i u → (i ≡ cardOf S p .place → ⊥) → SlotIs (S .desk .masks) (aw sc) (placeIn (t + r) sc) t i (slotIn (S .table) i) u
-        → SlotIs m′ (aw sc₂) (placeIn (t + r) sc₂) t i (slotIn (S .table) i) u
+    -- the other slots, and the slot of the look
+    slots-hit : (i : ℕ) (u : Version) → At (now .table) i u → (i ≡ cardOf (now .store) p .place → ⊥) → Is now (tableOf now) i (slotIn (now .store .table) i) u → Is n (tableOf n) i (slotIn (now .store .table) i) u
     slots-hit i u e d w =
-        let x : aw sc₂ p u ≡ awaits s u = aw-other u (in-left u (h .live) (h .left) (at-live n t r S h gt gs sc q i u e)) (elsewhere i u e d) in
-        slot-moves (S .desk .masks) m′ (aw sc) (aw sc₂) (placeIn (t + r) sc) (placeIn (t + r) sc₂) t p
-        (λ x hx d. turned-stable last (S .desk .masks) p x d) (λ x hx d. turned-local last (S .desk .masks) p x d) (other-place n t r S h gt gs sc q p s here 1 (reads (table-found .0) ∷ []))
-        i (slotIn (S .table) i) (slotIn (S .table) i) u refl refl (λ x hx d. refl) (λ x hx d. other-aw n t r S h gt gs sc q p s here 1 (reads (table-found .0) ∷ []) u x d)
-        (λ _. rw x (turned-own last (S .desk .masks) p (slotIn (S .table) i .mask) (awaits s u) walking (own-bit i u e) (λ f. behind i u e (before i (all-passed f i (at-below gt i u e)) d))))
-        (λ _ g. x ∙ behind i u e (before i (rw (on-place n t r S h gt gs sc q p s here 1 (reads (table-found .0) ∷ [])) at g) d)) w
-      where
-        before : (i : ℕ) → i < s .looks + 1 → (i ≡ cardOf S p .place → ⊥) → i < s .looks
-        before i k z = go (cardOf S p .place) (s .looks) at-looks z k
-          where
-            go : (c l : ℕ) → c ≡ l → (i ≡ c → ⊥) → i < l + 1 → i < l
-            go c l e z k = omega arith
+        let x = aw-else q p s here v ever-v (table-found .2) u (in-left u (now .history .live) (now .history .left) (at-live q i u e)) (elsewhere i u e d) in
+        let b : i < s .looks + 1 → awaits s u ≡ false = λ g. behind q p s here faces i u e g d in
+        is-still now n p (other q p s here 1 (reads v ∷ [])) refl (tableOf now) (tableOf n) (λ i. refl) (λ i hi d. ap (λ (y : ℕ). eqb y 0) (local i hi d))
+        i (slotIn (now .store .table) i) (slotIn (now .store .table) i) u refl refl (λ i hi d. xor-else _ _ _ _ i (stable i hi d) refl) (λ _. rw x (own-turned i u e b))
+        (λ _ g. x ∙ b (rw (place-at n p _ (own q p s here 1 (reads v ∷ []))) at g)) w
 
-    flipped-own : (x y : ℕ) → bit (bitXor x y) p ≡ 0 → bit (bitXor x (STATUS-MASK-SCAN-UPD y (scanMask p))) p ≡ 1
-    unfolding STATUS-MASK-SCAN-UPD
-    flipped-own x y e = bit-xor x (bitXor y (scanMask p)) p ∙ rw (flip-own y p) (omega (arith, bit-low x p, bit-low y p, sym (bit-xor x y p) ∙ e))
-
-    flipped-other : (y i : ℕ) → (i ≡ p → ⊥) → bit (STATUS-MASK-SCAN-UPD y (scanMask p)) i ≡ bit y i
-    unfolding STATUS-MASK-SCAN-UPD
-    flipped-other y i d = flip-other y p i d
-
-    -- the slot of the look
-    slot-hit : SlotIs m′ (aw sc₂) (placeIn (t + r) sc₂) t (cardOf S p .place) (flipped (slotIn (S .table) (cardOf S p .place)) p) (table-found .0)
+    slot-hit : Is n (tableOf n) (cardOf (now .store) p .place) (flipped (slotIn (now .store .table) (cardOf (now .store) p .place)) p) (table-found .0)
     slot-hit =
-        slot-moves (S .desk .masks) m′ (aw sc) (aw sc₂) (placeIn (t + r) sc) (placeIn (t + r) sc₂) t p
-        (λ x hx d. turned-stable last (S .desk .masks) p x d) (λ x hx d. turned-local last (S .desk .masks) p x d) (other-place n t r S h gt gs sc q p s here 1 (reads (table-found .0) ∷ []))
-        (cardOf S p .place) (slotIn (S .table) (cardOf S p .place)) (flipped (slotIn (S .table) (cardOf S p .place)) p) (table-found .0) refl refl (λ x hx d. flipped-other (slotIn (S .table) (cardOf S p .place) .mask) x d)
-        (λ x hx d. other-aw n t r S h gt gs sc q p s here 1 (reads (table-found .0) ∷ []) (table-found .0) x d)
-        (λ _. rw aw-gone (turned-own last (S .desk .masks) p (STATUS-MASK-SCAN-UPD (slotIn (S .table) (cardOf S p .place) .mask) (scanMask p)) false walking
-        (flipped-own (S .desk .masks .stable) (slotIn (S .table) (cardOf S p .place) .mask) (table-hit S p (cardOf S p .place) hit .1)) (λ f. refl)))
-        (λ _ g. aw-gone) (slot-of n t r S h gt gs sc q (cardOf S p .place) (table-found .0) (table-found .1))
+        let x = aw-gone q p s here v ever-v (table-found .2) in
+        is-still now n p (other q p s here 1 (reads v ∷ [])) refl (tableOf now) (tableOf n) (λ i. refl) (λ i hi d. ap (λ (y : ℕ). eqb y 0) (local i hi d))
+        j (slotIn (now .store .table) j) (flipped (slotIn (now .store .table) j) p) v refl refl (λ i hi d. xor-else _ _ _ _ i (stable i hi d) (flipped-other (slotIn (now .store .table) j .mask) p i d))
+        (λ _. rw x (turned-own last (now .store .desk .masks) p (STATUS-MASK-SCAN-UPD (slotIn (now .store .table) j .mask) (scanMask p)) false walking
+        (flipped-own (now .store .desk .masks .stable) (slotIn (now .store .table) j .mask) p (hit-bit q p s here faces hit .1)) (λ f. refl)))
+        (λ _ g. x) (slot-of q j v (table-found .1))
 
-    entries-hit : (k : ℕ) (u : Version) → At gs k u → EntryIs (S .desk .masks) (aw sc) (placeIn (t + r) sc) t k (slotIn (S .shelf) k) u → EntryIs m′ (aw sc₂) (placeIn (t + r) sc₂) t k (slotIn (S .shelf) k) u
+    entries-hit : (k : ℕ) (u : Version) → At (now .shelf) k u → Is now (shelfOf now) k (slotIn (now .store .shelf) k) u → Is n (shelfOf n) k (slotIn (now .store .shelf) k) u
     entries-hit k u e w =
-        let m = at-needed n t r S h gt gs sc q k u e .0 in
-        let x : aw sc₂ p u ≡ awaits s u = aw-other u (in-right u (h .live) (h .left) m) (off-shelf u m) in
-        entry-moves (S .desk .masks) m′ (aw sc) (aw sc₂) (placeIn (t + r) sc) (placeIn (t + r) sc₂) t p
-        (λ x hx d. turned-stable last (S .desk .masks) p x d) (λ x hx d. turned-local last (S .desk .masks) p x d) (other-place n t r S h gt gs sc q p s here 1 (reads (table-found .0) ∷ []))
-        k (slotIn (S .shelf) k) (slotIn (S .shelf) k) u refl refl (λ x hx d. refl) (λ x hx d. other-aw n t r S h gt gs sc q p s here 1 (reads (table-found .0) ∷ []) u x d)
-        (λ _. w .bits p hp ∙ ap (λ (b : Bool). oneIf (not b)) (here-aw n t r S h gt gs sc q p s here 1 [] u ∙ sym x)) (λ _ g. absurd (omega (arith, on-place n t r S h gt gs sc q p s here 1 (reads (table-found .0) ∷ [])))) w
+        let m = at-needed q k u e .0 in
+        let x = aw-else q p s here v ever-v (table-found .2) u (in-right u (now .history .live) (now .history .left) m) (off-shelf u m) in
+        is-still now n p (other q p s here 1 (reads v ∷ [])) refl (shelfOf now) (shelfOf n) (λ i. refl) (λ i hi d. refl)
+        k (slotIn (now .store .shelf) k) (slotIn (now .store .shelf) k) u refl refl (λ i hi d. refl) (λ _. w .bits p hp ∙ ap (λ (b : Bool). oneIf (not b)) (aw-at now p s here u ∙ sym x))
+        (λ _ g. absurd (omega (arith, place-at n p _ (own q p s here 1 (reads v ∷ []))))) w
 
     -- the shelf is as it was
-    pub shelf-same : map (keep (awaited h₂)) gs ≡ gs
+    shelf-same : map (keep (awaited (n .history))) (now .shelf) ≡ now .shelf
     shelf-same =
-        keep-all (awaited h₂) gs
-        (λ k u e. let m = at-needed n t r S h gt gs sc q k u e in
-        awaited-same n t r S h gt gs sc q p s here 1 (reads (table-found .0) ∷ []) u (handed-other n t r S h gt gs sc q p s here 1 (table-found .0) ever-v (table-found .2) u (in-right u (h .live) (h .left) (m .0)) (off-shelf u (m .0))) ∙ m .1)
+        keep-all (awaited (n .history)) (now .shelf)
+        (λ k u e. let m = at-needed q k u e in awaited-else q p s here v ever-v (table-found .2) u (in-right u (now .history .live) (now .history .left) (m .0)) (off-shelf u (m .0)) ∙ m .1)
 
-    pub table-hit-keeps : Inv n t r (tableLook true S p (cardOf S p .place) .0) h₂ gt (map (keep (awaited h₂)) gs) sc₂
+    pub table-hit-keeps : Inv n
     unfolding tableLook
     table-hit-keeps =
-        record {
-          fine = table-fine S (q .fine) p hp (busy n t r S h gt gs sc q p s here) true in-walk;
-          past = handed-past h (q .past) (s .ticket) 1 s (table-found .0) (runs-at n t r S h gt gs sc q p s here) refl (began-v n t r S h gt gs sc q p s here 1 (table-found .0) ever-v (table-found .2)) (table-found .2);
-          isN = q .isN;
-          isT = table-kept true S p (cardOf S p .place) .slots ∙ q .isT;
-          isR = q .isR;
-          last = q .last;
-          slots = q .slots;
-          entries = length-keep (awaited h₂) gs ∙ q .entries;
-          seats = on-seats n t r S h gt gs sc q p s here 1 (reads (table-found .0) ∷ []);
-          seated = on-seated n t r S h gt gs sc q p s here 1 (reads (table-found .0) ∷ []);
-          cards = on-cards n t r S h gt gs sc q p s here 1 (reads (table-found .0) ∷ []) (moved (cardOf S p) true)
-              (record { ticket = seat n t r S h gt gs sc q p s here .ticket; place = omega (arith, at-looks); handed = ap suc (seat n t r S h gt gs sc q p s here .handed) });
-          marks = rw shelf-same (record {
-            slots = λ i. slots i (ℕ-discrete i (cardOf S p .place));
-            entries = marks-map (S .desk .masks) m′ (aw sc) (aw sc₂) (placeIn (t + r) sc) (placeIn (t + r) sc₂) t [] (S .shelf) [] gs (λ i u e. absurd (Option·none-ne-some u e)) entries-hit
-                (record { slots = λ i. refl; entries = q .marks .entries }) .entries;
-          });
-          tabled = q .tabled;
-          shelved = on-shelved n t r S h gt gs sc q p s here 1 (reads (table-found .0) ∷ []) (handed-less n t r S h gt gs sc q p s here 1 (table-found .0) ever-v (table-found .2));
-        }
+        look-hands q p s here v ever-v (table-found .2) m′ (n .store .table) (now .store .shelf) (table-fine (now .store) (q .fine) p hp (busy q p s here) true in-walk)
+        (table-kept true (now .store) p j .slots) refl (λ i. slots i (ℕ-discrete i j))
+        (λ k. rw shelf-same (marked-map now n (shelfOf now) (shelfOf n) (now .store .shelf) (now .shelf) entries-hit (q .shelfMarks) k))
       where
-        rest : (i : ℕ) → (i ≡ cardOf S p .place → ⊥) → (o : Option Version) → getD gt i none ≡ o → SlotOK (S .desk .masks) (aw sc) (placeIn (t + r) sc) t i (slotIn (S .table) i) o
-            → SlotOK m′ (aw sc₂) (placeIn (t + r) sc₂) t i (slotIn (S .table) i) o
-        rest i d none e w = w
-        rest i d (some u) e w = slots-hit i u e d w
-
-        slots : (i : ℕ) → Dec (i ≡ cardOf S p .place) → SlotOK m′ (aw sc₂) (placeIn (t + r) sc₂) t i (slotIn (set (S .table) (cardOf S p .place) (flipped (slotIn (S .table) (cardOf S p .place)) p)) i) (getD gt i none)
-        slots i (yes z) = rw (z, getD-set-same (S .table) (cardOf S p .place) (flipped (slotIn (S .table) (cardOf S p .place)) p) free in-walk, table-found .1) slot-hit
-        slots i (no z) = rw (getD-set-other (S .table) (cardOf S p .place) i (flipped (slotIn (S .table) (cardOf S p .place)) p) free z) (rest i z (getD gt i none) refl (q .marks .slots i))
+        slots : (i : ℕ) → Dec (i ≡ cardOf (now .store) p .place) → OK n (tableOf n) i (slotIn (n .store .table) i) (getD (now .table) i none)
+        slots i (yes z) = rw (z, getD-set-same (now .store .table) j (flipped (slotIn (now .store .table) j) p) free in-walk, table-found .1) slot-hit
+        slots i (no z) = rw (getD-set-other (now .store .table) j i (flipped (slotIn (now .store .table) j) p) free z) (go (getD (now .table) i none) refl (q .tableMarks i))
+          where
+            go : (o : Option Version) → getD (now .table) i none ≡ o → OK now (tableOf now) i (slotIn (now .store .table) i) o → OK n (tableOf n) i (slotIn (now .store .table) i) o
+            go none e w = w
+            go (some u) e w = slots-hit i u e z w

@@ -1,6 +1,6 @@
 -- Any machine with demand 2 finishes its scans.
 use mathlib.Core.Path.{_≡_, refl, sym, ap, _∙_, subst}
-use mathlib.Core.Bool.{Bool, true, false, not, _&&_, cond}
+use mathlib.Core.Bool.{Bool, true, false, not, _&&_}
 use mathlib.Core.Option.{Option, none, some, Option·none-ne-some, Option·some-injective}
 use mathlib.Core.List.{List, [], _∷_, _++_, map}
 use mathlib.Core.Logic.{_⊎_, inl, inr}
@@ -28,13 +28,6 @@ use Rattle.demands.proofs.page.Lives.{refused-heard}
 use Rattle.demands.proofs.history.Past.{Past}
 
 -- ---- the scan of a ticket, as scans go on and finish
-
-ticket-kept : (t n : ℕ) (o : List (List ℕ)) (u : Scan) → goesOn t n o u .ticket ≡ u .ticket
-ticket-kept t n o u = go (ticketed t u)
-  where
-    go : (x : Bool) → cond x (onward n o u) u .ticket ≡ u .ticket
-    go true = refl
-    go false = refl
 
 own-goes : (t n : ℕ) (o : List (List ℕ)) (l : List Scan) (s : Scan) → firstThat (ticketed t) l ≡ some s → firstThat (ticketed t) (map (goesOn t n o) l) ≡ some (onward n o s)
 own-goes t n o [] s e = absurd (Option·none-ne-some s e)

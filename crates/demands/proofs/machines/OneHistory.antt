@@ -8,12 +8,12 @@ use native.Mathlib.Omega.{arith}
 use lib.ListN.{length, getD, set, length-set, length-replicate, length-append}
 use borrow.Author.Tests.{not-false}
 use Rattle.demands.specs.DemandTwo.{Going, Fulfils, Answers, Demand2}
-use Rattle.demands.specs.History.{Event, Version, Scan, History, awaited, needed, ticketed, onDone, onNext, runs, scanOf, heard, tells}
+use Rattle.demands.specs.History.{Event, Version, Scan, History, awaited, needed, ticketed, onDone, onNext, runs, scanOf, heard, tells, tellsFrom, untold}
 use Rattle.rules.specs.Passed.{All}
 use Rattle.demands.specs.Lists.{any, firstThat}
 use Rattle.demands.specs.Lives.{Opening, tableSlots, shelfEntries, bytesAfter, events, past}
 use Rattle.demands.specs.Machine.{Machine, Within}
-use Rattle.demands.specs.Placement.{Choice, Placing, Places, sit, placeOf, shelve, moves, allTold, placed, placesAfter, row, LooksRight}
+use Rattle.demands.specs.Placement.{Choice, Placing, Places, sit, placeOf, shelve, moves, allTold, placed, placedFrom, allToldFrom, unplaced, placesAfter, row, LooksRight}
 use Rattle.demands.specs.Reasons.{reason, reasons}
 use Rattle.demands.specs.RuleOfNext.{Peeks, stillToCome, RuleOfNext}
 use Rattle.rules.specs.Answers.{Answer, Shown, number}
@@ -62,10 +62,10 @@ module _ (C : Choice) (T R : ℕ) where
   moved-sized h g p i (Call.next t b o) a = record { table = i .table; shelf = length-keep (awaited g) (p .shelf) ∙ i .shelf }
   moved-sized h g p i (Call.reading q) a = i
 
-placed-sized : (P : Placing) (N T R : ℕ) (es : List Event) → Sized T R (placed P N T R es)
-unfolding placed
-placed-sized P N T R [] = record { table = length-replicate T none; shelf = length-replicate R none }
-placed-sized P N T R (e ∷ es) = moved-sized (P (allTold es)) T R (tells es) (tells (e ∷ es)) (placed P N T R es) (placed-sized P N T R es) (e .call) (e .answer)
+placed-sized : (start : History) (P : Placing) (T R : ℕ) (first : Places) → Sized T R first → (es : List Event) → Sized T R (placedFrom start P first es)
+placed-sized start P T R first i [] = i
+placed-sized start P T R first i (e ∷ es) =
+    moved-sized (P (allToldFrom start es)) T R (tellsFrom start es) (tellsFrom start (e ∷ es)) (placedFrom start P first es) (placed-sized start P T R first i es) (e .call) (e .answer)
 
 -- ---- an answer that is right of a history and its places
 
@@ -153,7 +153,8 @@ module _ (N T R : ℕ) (h : History) (p : Places) (i : Sized T R p) where
 module _ (M : Machine) (P : Placing) (d : Demand2 M) (r : RuleOfNext M P) (o : Opening) (cs : List Call) (ws : All Within cs) where
   -- where every list of calls leads, there are as many places
   sized : Sized (tableSlots o) (shelfEntries o) (placesAfter M P o cs)
-  sized = placed-sized P (o .n) (tableSlots o) (shelfEntries o) (events M o cs)
+  unfolding placed
+  sized = placed-sized untold P (tableSlots o) (shelfEntries o) (unplaced (o .n) (tableSlots o) (shelfEntries o)) (record { table = length-replicate (tableSlots o) none; shelf = length-replicate (shelfEntries o) none }) (events M o cs)
 
   is-right : (c : Call) → Within c → Right (o .n) (tableSlots o) (shelfEntries o) (past M o cs) (placesAfter M P o cs) sized c (M (bytesAfter M o cs) c .answer) (M (bytesAfter M o cs) c .out)
   is-right c w = record { answers = d .answers o cs ws c w; reading = reads c w }

@@ -1,8 +1,7 @@
 -- The calls of document 01, on lent bytes, meet demand 2.
 use mathlib.Core.Path.{_≡_, sym, ap, _∙_}
 use Rattle.demands.specs.DemandTwo.{Demand2}
-use Rattle.demands.specs.Lives.{Opening, tableSlots, shelfEntries, Accepted, bytesAfter, past}
-use Rattle.demands.specs.Placement.{lowest, placesAfter}
+use Rattle.demands.specs.Lives.{Opening, tableSlots, shelfEntries, Accepted}
 use Rattle.rules.specs.Calls.{opened}
 use Rattle.rules.specs.Memory.{written}
 use Rattle.rules.specs.Refusals.{Reply, effect, called}
@@ -17,8 +16,7 @@ demand-2 =
     record {
       opens = opens;
       alike = λ o p en et er. opening-writes o ∙ same o p en et er ∙ sym (opening-writes p);
-      answers = λ o cs ws c w.
-          call-lives (o .n) (tableSlots o) (shelfEntries o) (bytesAfter called o cs) (past called o cs) (placesAfter called lowest o cs) (all-live o cs ws) c w .answers;
+      answers = λ o cs ws c w. call-lives (all-live o cs ws) c w .answers;
     }
   where
     same : (o p : Opening) → o .n ≡ p .n → tableSlots o ≡ tableSlots p → shelfEntries o ≡ shelfEntries p → written (opened (o .n) (tableSlots o) (shelfEntries o)) ≡ written (opened (p .n) (tableSlots p) (shelfEntries p))

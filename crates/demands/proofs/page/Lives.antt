@@ -7,15 +7,15 @@ use Prim.Native.Nat.{ℕ, zero, suc, _+_, _≤_, _<_}
 use native.Mathlib.Omega.{arith}
 use lib.ListN.{getD, replicate, length-replicate}
 use Rattle.demands.specs.DemandTwo.{Answers}
-use Rattle.demands.specs.History.{Version, Scan, History, history, awaited, runs, heard, tells}
+use Rattle.demands.specs.History.{Version, Scan, History, awaited, runs, heard, tells, untold}
 use Rattle.rules.specs.Passed.{All, Well, LentBytes, LengthsRight}
 use Rattle.demands.specs.Lists.{keep, Permutation}
 use Rattle.demands.specs.Lives.{Opening, tableSlots, shelfEntries, bytesAfter, events, past}
 use Rattle.demands.specs.Machine.{Within}
-use Rattle.demands.specs.Placement.{lowestOf, lowest, Places, places, moves, placesAfter, placed}
+use Rattle.demands.specs.Placement.{lowestOf, lowest, Places, places, moves, placesAfter, placed, unplaced}
 use Rattle.demands.specs.Reasons.{reason}
 use Rattle.rules.specs.Calls.{opened, slotIn}
-use Rattle.rules.specs.Memory.{Lent, free, idle, Store, R, storeOf, read, written}
+use Rattle.rules.specs.Memory.{Lent, free, idle, R, storeOf, read, written}
 use Rattle.rules.specs.Refusals.{Call, Reply, ownRight, allRight, firstOf, ownRefusals, looksAtDesk, refusals, effect, refusedAs, outOf, writtenAll, replied, called}
 use Rattle.rules.specs.Sound.{sound, nInRange}
 use Rattle.stores.proofs.FirstOf.{no-refusal, same-first, skip-first}
@@ -23,7 +23,8 @@ use Rattle.stores.proofs.ChangesFine.{opened-fine}
 use Rattle.stores.proofs.Codec.{read-written}
 use Rattle.demands.proofs.page.DemandOne.{accepted, demand-1}
 use Rattle.demands.proofs.invariant.Invariant.{SeatOK, Inv}
-use Rattle.demands.proofs.invariant.Marks.{SlotOK, EntryOK}
+use Rattle.demands.proofs.invariant.Marks.{OK}
+use Rattle.demands.proofs.invariant.Moment.{Moment, moment, scansMove, tableOf, shelfOf}
 use Rattle.demands.proofs.invariant.NextKeeps.{shelf-awaited}
 use Rattle.demands.proofs.history.Past.{opened-past}
 use Rattle.demands.proofs.lists.Places.{standing-none}
@@ -47,7 +48,7 @@ pub record Living (n t r : ℕ) (l : Lent) (h : History) (p : Places) : Type 0 w
   pub bytes : LentBytes l
   pub lengths : LengthsRight l
   pub seats : List (Option Scan)
-  pub keeps : Inv n t r (read l) h (p .table) (p .shelf) seats
+  pub keeps : Inv (moment n t r (read l) h (p .table) (p .shelf) seats)
   pub sits : p .positions ≡ tickets seats
 
 pub well : (c : Call) → Within c → Well c
@@ -59,7 +60,11 @@ well (Call.reading q) w = w
 
 -- ---- the opening
 
-opened-inv : (n t r : ℕ) → nInRange n ≡ true → 1 ≤ t → t + r < 4294967296 → Inv n t r (opened n t r) (history 0 [] [] 0 []) (replicate t none) (replicate r none) (replicate n none)
+-- the first moment of a store
+abbrev firstMoment : ℕ → ℕ → ℕ → Moment
+firstMoment n t r = moment n t r (opened n t r) untold (unplaced n t r .table) (unplaced n t r .shelf) (replicate n none)
+
+opened-inv : (n t r : ℕ) → nInRange n ≡ true → 1 ≤ t → t + r < 4294967296 → Inv (firstMoment n t r)
 unfolding opened
 opened-inv n t r hn ht hs =
     record {
@@ -74,10 +79,8 @@ opened-inv n t r hn ht hs =
       seats = length-replicate n none;
       seated = subst (λ (l : List Scan). Permutation l []) (sym (standing-none n)) Permutation.empty;
       cards = λ i hi. card i;
-      marks = record {
-        slots = λ j. subst (SlotOK _ _ _ t j (slotIn (replicate t free) j)) (sym (empty t j)) (freed t j);
-        entries = λ k. subst (EntryOK _ _ _ t k (slotIn (replicate r free) k)) (sym (empty r k)) (freed r k);
-      };
+      tableMarks = λ j. subst (OK (firstMoment n t r) (tableOf (firstMoment n t r)) j (slotIn (replicate t free) j)) (sym (empty t j)) (freed t j);
+      shelfMarks = λ k. subst (OK (firstMoment n t r) (shelfOf (firstMoment n t r)) k (slotIn (replicate r free) k)) (sym (empty r k)) (freed r k);
       tabled = subst (λ (l : List Version). Permutation l []) (sym (standing-none t)) Permutation.empty;
       shelved = subst (λ (l : List Version). Permutation l []) (sym (standing-none r)) Permutation.empty;
     }
@@ -107,7 +110,7 @@ module _ (o : Opening) where
       ap (λ (r : Reply). r .after) opening-is
       ∙ ap (λ (t : ℕ). written (opened (o .n) t (R (read (o .old))))) (count-read (o .old .table)) ∙ ap (λ (r : ℕ). written (opened (o .n) (tableSlots o) r)) (count-read (o .old .shelf))
 
-  opened-inv-of : Inv (o .n) (tableSlots o) (shelfEntries o) (opened (o .n) (tableSlots o) (shelfEntries o)) (history 0 [] [] 0 []) (replicate (tableSlots o) none) (replicate (shelfEntries o) none) (replicate (o .n) none)
+  opened-inv-of : Inv (firstMoment (o .n) (tableSlots o) (shelfEntries o))
   opened-inv-of =
       let z = to-lengths (o .old) (o .lengths) in
       opened-inv (o .n) (tableSlots o) (shelfEntries o) (o .inRange) (z .slots) (omega (arith, z .slotsMost, z .entriesMost))
@@ -123,8 +126,7 @@ module _ (o : Opening) where
         bytes = demand-1 .bytes (o .old) (Call.opening (o .n)) (o .bytes) (small (o .n) (o .inRange));
         lengths = rw (w .desk, w .table, w .shelf) (o .lengths);
         seats = replicate (o .n) none;
-        keeps = subst (λ (S : Store). Inv (o .n) (tableSlots o) (shelfEntries o) S (history 0 [] [] 0 []) (replicate (tableSlots o) none) (replicate (shelfEntries o) none) (replicate (o .n) none))
-            (sym opening-reads) opened-inv-of;
+        keeps = subst Inv (λ i. scansMove (firstMoment (o .n) (tableSlots o) (shelfEntries o)) (sym opening-reads i) (past called o []) (replicate (o .n) none)) opened-inv-of;
         sits = no-tickets (o .n);
       }
     where
@@ -155,7 +157,7 @@ refused-moves h p (Call.reading q) k e f = refl
 
 -- ---- one more call
 
-module _ (n t r : ℕ) (l : Lent) (h : History) (p : Places) (v : Living n t r l h p) (c : Call) (w : Within c) where
+module _ {n t r : ℕ} {l : Lent} {h : History} {p : Places} (v : Living n t r l h p) (c : Call) (w : Within c) where
   -- 1 only for the call's own lengths, and never 2
   pub refusals-are : firstOf (refusals l c) ≡ reason n t r h c
   unfolding refusals
@@ -163,7 +165,7 @@ module _ (n t r : ℕ) (l : Lent) (h : History) (p : Places) (v : Living n t r l
       same-first (not (allRight l c)) (not (ownRight c)) 1 ((looksAtDesk c && not (sound (read l)), 2) ∷ ownRefusals (read l) c) (ownRefusals (read l) c)
       (ap not (ap (λ (b : Bool). ownRight c && b) (v .lengths) ∙ and-true (ownRight c)))
       (λ _. skip-first (looksAtDesk c && not (sound (read l))) 2 (ownRefusals (read l) c) (ap (λ (b : Bool). looksAtDesk c && not b) (of-sound (read l) (v .keeps .fine .sound)) ∙ and-false (looksAtDesk c)))
-      ∙ reasons-are n t r (read l) h (p .table) (p .shelf) (v .seats) (v .keeps) c
+      ∙ reasons-are (v .keeps) c
 
   abbrev later : Reply → Places
   later x = moves lowestOf h (heard h c (x .answer) (x .out)) p c (x .answer)
@@ -172,7 +174,7 @@ module _ (n t r : ℕ) (l : Lent) (h : History) (p : Places) (v : Living n t r l
   pub record Lived (x : Reply) : Type 0 where
     pub lives : Living n t r (x .after) (heard h c (x .answer) (x .out)) (later x)
     pub answers : Answers t r h (reason n t r h c) c (x .answer) (x .out)
-    pub stepped : reason n t r h c ≡ none → Stepped n t r (read l) h (p .table) (p .shelf) (v .seats) (v .keeps) (p .positions) (v .sits) c (x .answer) (effect (read l) c .after) (x .out)
+    pub stepped : reason n t r h c ≡ none → Stepped (v .keeps) (p .positions) (v .sits) c (x .answer) (effect (read l) c .after) (x .out)
 
   refused-lives : (k : ℕ) → reason n t r h c ≡ some k → Lived (replied (some k) l c)
   unfolding replied
@@ -186,12 +188,12 @@ module _ (n t r : ℕ) (l : Lent) (h : History) (p : Places) (v : Living n t r l
       same-places : moves lowestOf h (heard h c (refusedAs c k) (outOf c)) p c (refusedAs c k) ≡ p
       same-places =
           ap (λ (y : History). moves lowestOf h y p c (refusedAs c k)) (refused-heard h c k (outOf c))
-          ∙ refused-moves h p c k (shelf-awaited n t r (read l) h (p .table) (p .shelf) (v .seats) (v .keeps)) (all-run n t r (read l) h (p .table) (p .shelf) (v .seats) (v .keeps) (p .positions) (v .sits))
+          ∙ refused-moves h p c k (shelf-awaited (v .keeps)) (all-run (v .keeps) (p .positions) (v .sits))
 
   accepted-lives : firstOf (refusals l c) ≡ none → Lived (called l c)
   accepted-lives e =
       let a = accepted l c e in
-      let s = steps n t r (read l) h (p .table) (p .shelf) (v .seats) (v .keeps) (p .positions) (v .sits) c w (a .own) (a .others) in
+      let s = steps (v .keeps) (p .positions) (v .sits) c w (a .own) (a .others) in
       let d = demand-1 .lengths l c (v .bytes) (well c w) in
       let f : called l c ≡ writtenAll (effect (read l) c) = accepted-is l c e in
       let b = demand-1 .bytes l c (v .bytes) (well c w) in
@@ -222,5 +224,4 @@ module _ (o : Opening) where
   pub all-live : (cs : List Call) → All Within cs → Living (o .n) (tableSlots o) (shelfEntries o) (bytesAfter called o cs) (past called o cs) (placesAfter called lowest o cs)
   unfolding bytesAfter events tells placed
   all-live [] w = opening-lives o
-  all-live (c ∷ cs) w =
-      call-lives (o .n) (tableSlots o) (shelfEntries o) (bytesAfter called o cs) (past called o cs) (placesAfter called lowest o cs) (all-live cs (w .1)) c (w .0) .lives
+  all-live (c ∷ cs) w = call-lives (all-live cs (w .1)) c (w .0) .lives

@@ -8,7 +8,7 @@ use native.Mathlib.Omega.{arith}
 use lib.Dec.{ltb}
 use lib.ListN.{getD}
 use borrow.Author.Tests.{eqb-true, eqb-false}
-use Rattle.demands.specs.History.{Version, Scan, History}
+use Rattle.demands.specs.History.{Scan}
 use Rattle.rules.specs.Passed.{All}
 use Rattle.demands.specs.Lives.{Opening, tableSlots, shelfEntries, bytesAfter, past}
 use Rattle.demands.specs.Machine.{Within}
@@ -20,42 +20,43 @@ use Rattle.rules.specs.Memory.{Lent, Store, T, read}
 use Rattle.rules.specs.Refusals.{Call, Reply, firstOf, refusals, effect, replied, called}
 use Rattle.stores.proofs.Codec.{read-written}
 use Rattle.demands.proofs.page.DemandOne.{accepted, accepted-fine}
-use Rattle.demands.proofs.invariant.Invariant.{aw, Inv, busy, seat, resting, slot-of, entry-of}
+use Rattle.demands.proofs.invariant.Invariant.{Inv, busy, seat, resting, slot-of, entry-of}
+use Rattle.demands.proofs.invariant.Moment.{Moment}
 use Rattle.demands.proofs.page.Lives.{Living, all-live, opening-reads, accepted-is, refused-is, well}
 use Rattle.demands.proofs.invariant.Positions.{tickets, sitting-is}
 use Rattle.demands.proofs.invariant.Turns.{Turns, effect-turns, still}
 use Rattle.rules.proofs.Bits.{bit-low, bit-zero}
 
-module _ (n t r : ℕ) (S : Store) (h : History) (gt gs : List (Option Version)) (sc : List (Option Scan)) (q : Inv n t r S h gt gs sc) (ps : List (Option ℕ)) (is-ps : ps ≡ tickets sc) where
+module _ {now : Moment} (q : Inv now) (ps : List (Option ℕ)) (is-ps : ps ≡ tickets (now .seats)) where
   -- the scan at position i
   abbrev at-i : ℕ → Option Scan
-  at-i i = scanWith h (getD ps i none)
+  at-i i = scanWith (now .history) (getD ps i none)
 
-  seated-is : (i : ℕ) → at-i i ≡ getD sc i none
-  seated-is i = sitting-is n t r S h gt gs sc q ps is-ps i
+  seated-is : (i : ℕ) → at-i i ≡ getD (now .seats) i none
+  seated-is i = sitting-is q ps is-ps i
 
-  active-is : (i : ℕ) → i < 64 → bit (S .desk .masks .active) i ≡ oneIf (noneRuns (at-i i))
-  active-is i hi = go (getD sc i none) refl ∙ ap (λ (o : Option Scan). oneIf (noneRuns o)) (sym (seated-is i))
+  active-is : (i : ℕ) → i < 64 → bit (now .store .desk .masks .active) i ≡ oneIf (noneRuns (at-i i))
+  active-is i hi = go (getD (now .seats) i none) refl ∙ ap (λ (o : Option Scan). oneIf (noneRuns o)) (sym (seated-is i))
     where
-      go : (o : Option Scan) → getD sc i none ≡ o → bit (S .desk .masks .active) i ≡ oneIf (noneRuns (getD sc i none))
-      go none e = rw e (resting n t r S h gt gs sc q i hi e .active)
-      go (some s) e = rw e (busy n t r S h gt gs sc q i s e .active)
+      go : (o : Option Scan) → getD (now .seats) i none ≡ o → bit (now .store .desk .masks .active) i ≡ oneIf (noneRuns (getD (now .seats) i none))
+      go none e = rw e (resting q i hi e .active)
+      go (some s) e = rw e (busy q i s e .active)
 
   -- the local active bit is 0 exactly where a scan is in its table walk
-  walking-is : (i : ℕ) → i < 64 → off (S .desk .masks .local) i ≡ walks t (at-i i)
-  walking-is i hi = go (getD sc i none) refl ∙ ap (walks t) (sym (seated-is i))
+  walking-is : (i : ℕ) → i < 64 → off (now .store .desk .masks .local) i ≡ walks (now .t) (at-i i)
+  walking-is i hi = go (getD (now .seats) i none) refl ∙ ap (walks (now .t)) (sym (seated-is i))
     where
-      go : (o : Option Scan) → getD sc i none ≡ o → off (S .desk .masks .local) i ≡ walks t (getD sc i none)
-      go none e = rw (e, resting n t r S h gt gs sc q i hi e .local) refl
-      go (some s) e = sym (busy n t r S h gt gs sc q i s e .local) ∙ ap (λ (x : ℕ). ltb x (T S)) (seat n t r S h gt gs sc q i s e .place) ∙ ap (ltb (s .looks)) (q .isT) ∙ sym (ap (walks t) e)
+      go : (o : Option Scan) → getD (now .seats) i none ≡ o → off (now .store .desk .masks .local) i ≡ walks (now .t) (getD (now .seats) i none)
+      go none e = rw (e, resting q i hi e .local) refl
+      go (some s) e = sym (busy q i s e .local) ∙ ap (λ (x : ℕ). ltb x (T (now .store))) (seat q i s e .place) ∙ ap (ltb (s .looks)) (q .isT) ∙ sym (ap (walks (now .t)) e)
 
-  local-is : (i : ℕ) → i < 64 → bit (S .desk .masks .local) i ≡ oneIf (not (walks t (at-i i)))
-  local-is i hi = go (off (S .desk .masks .local) i) refl
+  local-is : (i : ℕ) → i < 64 → bit (now .store .desk .masks .local) i ≡ oneIf (not (walks (now .t) (at-i i)))
+  local-is i hi = go (off (now .store .desk .masks .local) i) refl
     where
-      go : (b : Bool) → off (S .desk .masks .local) i ≡ b → bit (S .desk .masks .local) i ≡ oneIf (not (walks t (at-i i)))
+      go : (b : Bool) → off (now .store .desk .masks .local) i ≡ b → bit (now .store .desk .masks .local) i ≡ oneIf (not (walks (now .t) (at-i i)))
       go true e = eqb-true _ _ e ∙ sym (ap (λ (b : Bool). oneIf (not b)) (sym (walking-is i hi) ∙ e))
       go false e =
-          let z : bit (S .desk .masks .local) i ≡ 1 = omega (arith, bit-low (S .desk .masks .local) i, eqb-false (bit (S .desk .masks .local) i) 0 e) in
+          let z : bit (now .store .desk .masks .local) i ≡ 1 = omega (arith, bit-low (now .store .desk .masks .local) i, eqb-false (bit (now .store .desk .masks .local) i) 0 e) in
           z ∙ sym (ap (λ (b : Bool). oneIf (not b)) (sym (walking-is i hi) ∙ e))
 
 -- ---- stable bits
@@ -91,8 +92,8 @@ module _ (o : Opening) where
   stable-is (c ∷ cs) ws i hi =
       let v = lived cs (ws .1) in
       let u = lived (c ∷ cs) ws in
-      let a : off (masksAfter called o cs .local) i ≡ walking called o lowest cs i = walking-is (o .n) (tableSlots o) (shelfEntries o) _ _ _ _ (v .seats) (v .keeps) (placesAfter called lowest o cs .positions) (v .sits) i hi in
-      let b : off (masksAfter called o (c ∷ cs) .local) i ≡ walking called o lowest (c ∷ cs) i = walking-is (o .n) (tableSlots o) (shelfEntries o) _ _ _ _ (u .seats) (u .keeps) (placesAfter called lowest o (c ∷ cs) .positions) (u .sits) i hi in
+      let a : off (masksAfter called o cs .local) i ≡ walking called o lowest cs i = walking-is (v .keeps) (placesAfter called lowest o cs .positions) (v .sits) i hi in
+      let b : off (masksAfter called o (c ∷ cs) .local) i ≡ walking called o lowest (c ∷ cs) i = walking-is (u .keeps) (placesAfter called lowest o (c ∷ cs) .positions) (u .sits) i hi in
       let ih : bit (masksAfter called o cs .stable) i ≡ walksEnded called o lowest cs i % 2 = stable-is cs (ws .1) i hi in
       call-turns cs (ws .1) c (ws .0) i hi ∙ rw (a, b, ih) (plus (walksEnded called o lowest cs i) (oneIf (walking called o lowest cs i && not (walking called o lowest (c ∷ cs) i))))
     where
@@ -103,16 +104,13 @@ pub masks-move : MasksMove called lowest
 unfolding MasksMove
 masks-move o acc cs ws =
     let v = lived o cs ws in
-    let n = o .n in
-    let t = tableSlots o in
-    let r = shelfEntries o in
     let ps = placesAfter called lowest o cs .positions in
     record {
-      active = λ i hi. active-is n t r _ _ _ _ (v .seats) (v .keeps) ps (v .sits) i hi;
-      local = λ i hi. local-is n t r _ _ _ _ (v .seats) (v .keeps) ps (v .sits) i hi;
+      active = λ i hi. active-is (v .keeps) ps (v .sits) i hi;
+      local = λ i hi. local-is (v .keeps) ps (v .sits) i hi;
       stable = stable-is o cs ws;
-      status = λ j x e i hi. slot-of n t r _ _ _ _ (v .seats) (v .keeps) j x e .bits i hi
-          ∙ ap (λ (b : Bool). oneIf (b && not (aw (v .seats) i x))) (walking-is n t r _ _ _ _ (v .seats) (v .keeps) ps (v .sits) i hi)
-          ∙ ap (λ (y : Option Scan). oneIf (walking called o lowest cs i && not (waitsFor y x))) (sym (seated-is n t r _ _ _ _ (v .seats) (v .keeps) ps (v .sits) i));
-      remset = λ k x e i hi. entry-of n t r _ _ _ _ (v .seats) (v .keeps) k x e .bits i hi ∙ ap (λ (y : Option Scan). oneIf (not (waitsFor y x))) (sym (seated-is n t r _ _ _ _ (v .seats) (v .keeps) ps (v .sits) i));
+      status = λ j x e i hi. slot-of (v .keeps) j x e .bits i hi
+          ∙ ap (λ (b : Bool). oneIf (b && not (waitsFor (getD (v .seats) i none) x))) (walking-is (v .keeps) ps (v .sits) i hi)
+          ∙ ap (λ (y : Option Scan). oneIf (walking called o lowest cs i && not (waitsFor y x))) (sym (seated-is (v .keeps) ps (v .sits) i));
+      remset = λ k x e i hi. entry-of (v .keeps) k x e .bits i hi ∙ ap (λ (y : Option Scan). oneIf (not (waitsFor y x))) (sym (seated-is (v .keeps) ps (v .sits) i));
     }

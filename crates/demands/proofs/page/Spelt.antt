@@ -3,26 +3,21 @@ use mathlib.Core.Path.{_≡_, refl, sym, ap, _∙_}
 use mathlib.Core.Bool.{Bool, true, false, _&&_, false≢true}
 use mathlib.Core.Option.{Option, none, some}
 use mathlib.Core.List.{List, [], _∷_}
-use mathlib.Core.Logic.{inl, inr}
 use Prim.Native.Nat.{ℕ, _<_}
-use native.Mathlib.Omega.{arith}
 use lib.Dec.{eqb}
 use lib.ListN.{length, getD, replicate}
 use borrow.Author.Tests.{eqb-true}
 use Rattle.demands.specs.History.{Scan, History}
-use Rattle.demands.specs.Placement.{lowest, Places, sitting, placesAfter}
+use Rattle.demands.specs.Placement.{lowest, Places, sitting}
 use Rattle.demands.specs.Spelt.{cardWith, Spells, Spelt}
-use Rattle.rules.specs.declared.Card.{Card}
 use Rattle.rules.specs.Calls.{cardOf}
-use Rattle.rules.specs.Memory.{Lent, T, R, read}
+use Rattle.rules.specs.Memory.{Lent, read}
 use Rattle.rules.specs.Refusals.{called}
 use Rattle.rules.specs.Sound.{allZero}
 use Rattle.demands.proofs.page.DemandThree.{slot-reads, entry-reads}
 use Rattle.demands.proofs.invariant.Invariant.{seat, resting}
 use Rattle.demands.proofs.page.Lives.{Living, all-live}
-use Rattle.demands.proofs.lists.Places.{At}
 use Rattle.demands.proofs.invariant.Positions.{sitting-is}
-use Rattle.stores.proofs.SoundDesk.{CardSound}
 
 all-zero : (l : List ℕ) → allZero l ≡ true → l ≡ replicate (length l) 0
 unfolding allZero
@@ -33,21 +28,16 @@ all-zero (x ∷ l) e = go (eqb x 0) refl (all-zero l)
     go true q ih = λ i. eqb-true x 0 q i ∷ ih (sym (ap (λ (b : Bool). b && allZero l) q) ∙ e) i
     go false q ih = absurd (false≢true (sym (ap (λ (b : Bool). b && allZero l) q) ∙ e))
 
-module _ (n t r : ℕ) (l : Lent) (h : History) (p : Places) (v : Living n t r l h p) where
+module _ {n t r : ℕ} {l : Lent} {h : History} {p : Places} (v : Living n t r l h p) where
   -- a card is that of the scan at its position
   card-is : (i : ℕ) → i < 64 → cardOf (read l) i ≡ cardWith (sitting h p i)
-  card-is i hi = go (getD (v .seats) i none) refl ∙ ap cardWith (sym (sitting-is n t r (read l) h (p .table) (p .shelf) (v .seats) (v .keeps) (p .positions) (v .sits) i))
+  card-is i hi = go (getD (v .seats) i none) refl ∙ ap cardWith (sym (sitting-is (v .keeps) (p .positions) (v .sits) i))
     where
-      busy : (s : Scan) → At (v .seats) i s → CardSound (read l .desk .masks) (T (read l)) (R (read l)) (read l .desk .last) (cardOf (read l) i) i → cardOf (read l) i .rest ≡ 0
-      busy s e (inl x) = ap (λ (c : Card). c .rest) (x .none)
-      busy s e (inr x) = x .rest
-
       go : (o : Option Scan) → getD (v .seats) i none ≡ o → cardOf (read l) i ≡ cardWith (getD (v .seats) i none)
-      go none e = resting n t r (read l) h (p .table) (p .shelf) (v .seats) (v .keeps) i hi e .none ∙ ap cardWith (sym e)
+      go none e = resting (v .keeps) i hi e .none ∙ ap cardWith (sym e)
       go (some s) e =
-          let c = seat n t r (read l) h (p .table) (p .shelf) (v .seats) (v .keeps) i s e in
-          let z = busy s e (v .keeps .fine .sound .cards i (omega (arith, v .keeps .fine .sized .desk .all))) in
-          (λ j. record { ticket = record { 0 = c .ticket j }; place = c .place j; handed = c .handed j; rest = z j }) ∙ ap cardWith (sym e)
+          let c = seat (v .keeps) i s e in
+          (λ j. record { ticket = record { 0 = c .ticket j }; place = c .place j; handed = c .handed j; rest = c .rest j }) ∙ ap cardWith (sym e)
 
   pub spells : Spells n t r h p (read l)
   spells =
@@ -58,10 +48,10 @@ module _ (n t r : ℕ) (l : Lent) (h : History) (p : Places) (v : Living n t r l
         last = v .keeps .last;
         zeros = all-zero (read l .desk .zeros) (v .keeps .fine .sound .zeros) ∙ ap (λ (k : ℕ). replicate k 0) (v .keeps .fine .sized .desk .zeros);
         cards = card-is;
-        table = slot-reads n t r l h p v;
-        shelf = entry-reads n t r l h p v;
+        table = slot-reads (v .keeps);
+        shelf = entry-reads (v .keeps);
       }
 
 pub spelt : Spelt called lowest
 unfolding Spelt
-spelt o a cs ws = spells (o .n) _ _ _ _ (placesAfter called lowest o cs) (all-live o cs ws)
+spelt o a cs ws = spells (all-live o cs ws)

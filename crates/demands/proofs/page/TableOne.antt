@@ -82,18 +82,18 @@ module _ (o : Opening) (acc : Accepted called o) (cs : List Call) (c : Call) (ws
   u = all-live o (c ∷ cs) ws
 
   stands : (i : ℕ) → standsAt called lowest o cs i ≡ getD (v .seats) i none
-  stands i = sitting-is (o .n) _ _ _ _ _ _ (v .seats) (v .keeps) (placesAfter called lowest o cs .positions) (v .sits) i
+  stands i = sitting-is (v .keeps) (placesAfter called lowest o cs .positions) (v .sits) i
 
   -- a call moves the scan of one position at most
   one-moves : (mover : ℕ) × ((i : ℕ) → (i ≡ mover → ⊥) → standsAt called lowest o (c ∷ cs) i ≡ standsAt called lowest o cs i)
   unfolding bytesAfter events tells placed
-  one-moves = go (reason (o .n) (tableSlots o) (shelfEntries o) (past called o cs) c) refl (call-lives (o .n) (tableSlots o) (shelfEntries o) _ _ _ v c (ws .0))
+  one-moves = go (reason (o .n) (tableSlots o) (shelfEntries o) (past called o cs) c) refl (call-lives v c (ws .0))
     where
-      go : (x : Option ℕ) → reason (o .n) (tableSlots o) (shelfEntries o) (past called o cs) c ≡ x → Lived (o .n) (tableSlots o) (shelfEntries o) _ _ _ v c (ws .0) (called (bytesAfter called o cs) c)
+      go : (x : Option ℕ) → reason (o .n) (tableSlots o) (shelfEntries o) (past called o cs) c ≡ x → Lived v c (ws .0) (called (bytesAfter called o cs) c)
           → (mover : ℕ) × ((i : ℕ) → (i ≡ mover → ⊥) → standsAt called lowest o (c ∷ cs) i ≡ standsAt called lowest o cs i)
       go none e w =
           let s = w .stepped e in
-          (s .mover, λ i d. sitting-is (o .n) (tableSlots o) (shelfEntries o) _ _ _ _ (s .seats) (s .keeps) (placesAfter called lowest o (c ∷ cs) .positions) (s .sits) i ∙ s .others i d ∙ sym (stands i))
+          (s .mover, λ i d. sitting-is (s .keeps) (placesAfter called lowest o (c ∷ cs) .positions) (s .sits) i ∙ s .others i d ∙ sym (stands i))
       go (some k) e w =
           let a : called (bytesAfter called o cs) c .answer ≡ refusedAs c k =
           subst (λ (x : Option ℕ). Answers (tableSlots o) (shelfEntries o) (past called o cs) x c (called (bytesAfter called o cs) c .answer) (called (bytesAfter called o cs) c .out)) e (w .answers) in
@@ -109,7 +109,7 @@ module _ (o : Opening) (acc : Accepted called o) (cs : List Call) (c : Call) (ws
           still a i =
               let f : heard h c (called (bytesAfter called o cs) c .answer) (called (bytesAfter called o cs) c .out) ≡ h = ap (λ (x : Answer). heard h c x (called (bytesAfter called o cs) c .out)) a ∙ refused-heard h c k (called (bytesAfter called o cs) c .out) in
               let g : moves lowestOf h h p c (refusedAs c k) ≡ p =
-              refused-moves h p c k (shelf-awaited (o .n) _ _ _ h (p .table) (p .shelf) (v .seats) (v .keeps)) (all-run (o .n) _ _ _ h (p .table) (p .shelf) (v .seats) (v .keeps) (p .positions) (v .sits)) in
+              refused-moves h p c k (shelf-awaited (v .keeps)) (all-run (v .keeps) (p .positions) (v .sits)) in
               (λ j. sitting (f j) (moves lowestOf h (f j) p c (a j)) i) ∙ ap (λ (y : Places). sitting h y i) g
 
   -- past its table walk a scan awaits nothing in the table
@@ -117,7 +117,7 @@ module _ (o : Opening) (acc : Accepted called o) (cs : List Call) (c : Call) (ws
   unfolding MasksMove
   past-walk j x e i hi w =
       ap (λ (s : Option Scan). waitsFor s x) (stands i)
-      ∙ beyond (o .n) _ _ _ _ _ _ (v .seats) (v .keeps) j x e i hi (means .local i hi ∙ ap (λ (b : Bool). oneIf (not b)) w)
+      ∙ beyond (v .keeps) j x e i hi (means .local i hi ∙ ap (λ (b : Bool). oneIf (not b)) w)
     where
       means : MasksMean called o lowest cs
       means = masks-move o acc cs (ws .1)
@@ -133,8 +133,8 @@ module _ (o : Opening) (acc : Accepted called o) (cs : List Call) (c : Call) (ws
       go : ((i : ℕ) → standsAt called lowest o (c ∷ cs) i ≡ standsAt called lowest o cs i) ⊎ Kept (past called o (c ∷ cs)) (past called o cs) → (i : ℕ) → standsAt called lowest o (c ∷ cs) i ≡ standsAt called lowest o cs i
       go (inl y) = y
       go (inr y) =
-          let m = at-live (o .n) _ _ _ _ _ _ (v .seats) (v .keeps) j x e in
-          let n = at-needed (o .n) _ _ _ _ _ _ (u .seats) (u .keeps) k x f .0 in
+          let m = at-live (v .keeps) j x e in
+          let n = at-needed (u .keeps) k x f .0 in
           absurd (apart-across changeOf (past called o cs .live) (past called o cs .left) (v .keeps .past .names) x x m (rw (y .0) at n) refl)
 
   -- a version that the call has made no scan awaits
@@ -144,13 +144,13 @@ module _ (o : Opening) (acc : Accepted called o) (cs : List Call) (c : Call) (ws
     where
       unawaited : (i : ℕ) (s : Option Scan) → getD (v .seats) i none ≡ s → waitsFor s x ≡ false
       unawaited i none z = refl
-      unawaited i (some s) z = unmade (past called o cs) (v .keeps .past) s (runs-at (o .n) _ _ _ _ _ _ (v .seats) (v .keeps) i s z) x (omega (arith, new))
+      unawaited i (some s) z = unmade (past called o cs) (v .keeps .past) s (runs-at (v .keeps) i s z) x (omega (arith, new))
 
       go : ((i : ℕ) → standsAt called lowest o (c ∷ cs) i ≡ standsAt called lowest o cs i) ⊎ Kept (past called o (c ∷ cs)) (past called o cs)
           → ((i : ℕ) → standsAt called lowest o (c ∷ cs) i ≡ standsAt called lowest o cs i) × ((i : ℕ) → i < 64 → waits called o lowest (c ∷ cs) i x ≡ false)
       go (inl y) = (y, λ i hi. ap (λ (s : Option Scan). waitsFor s x) (y i ∙ stands i) ∙ unawaited i (getD (v .seats) i none) refl)
       go (inr y) =
-          let m : x .change < past called o (c ∷ cs) .changes = u .keeps .past .old x (in-left x _ _ (at-live (o .n) _ _ _ _ _ _ (u .seats) (u .keeps) j x e)) in
+          let m : x .change < past called o (c ∷ cs) .changes = u .keeps .past .old x (in-left x _ _ (at-live (u .keeps) j x e)) in
           absurd (omega (arith, y .1))
 
   pub call-moves : Moved called lowest o cs c

@@ -10,7 +10,7 @@ use borrow.Author.Tests.{ne-eqb}
 use Rattle.demands.specs.DemandThree.{Reads, Holds, Demand3}
 use Rattle.demands.specs.DemandTwo.{Fulfils, Answers, Demand2}
 use Rattle.demands.specs.History.{Version, History, awaited, needed, numbered, leaving, heard, tells}
-use Rattle.wrong.specs.Idle.{change, ShelvesForEach}
+use Rattle.idle.specs.Idle.{change, ShelvesForEach}
 use Rattle.rules.specs.Passed.{All}
 use Rattle.demands.specs.Lists.{any, those, standing}
 use Rattle.demands.specs.Lives.{Opening, tableSlots, shelfEntries, bytesAfter, events, past}

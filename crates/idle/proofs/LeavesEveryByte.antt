@@ -11,7 +11,7 @@ use borrow.Author.Tests.{eq-eqb, ne-eqb, not-true, lt-leb}
 use Rattle.demands.specs.DemandTwo.{Fulfils, Answers, Demand2}
 use Rattle.demands.specs.Finishing.{Finished}
 use Rattle.demands.specs.History.{Version, Scan, History, awaited, needed, numbered, ticketed, isLive, runs, scanOf, leaving, deleted, finishes, heard, tells}
-use Rattle.wrong.specs.Idle.{bytesThen, pastThen, buffer, LeavesEveryByte}
+use Rattle.idle.specs.Idle.{bytesThen, pastThen, buffer, LeavesEveryByte}
 use Rattle.demands.specs.Lives.{Opening, tableSlots, shelfEntries, events}
 use Rattle.demands.specs.Machine.{Machine, Within}
 use Rattle.demands.specs.Reasons.{noRoomFor, reasons, reason}
@@ -19,7 +19,7 @@ use Rattle.rules.specs.Answers.{Answer, Draw}
 use Rattle.rules.specs.Memory.{Lent}
 use Rattle.rules.specs.Refusals.{Call, Change, firstOf, refusedAs}
 use Rattle.demands.proofs.machines.AnyMachine.{Bounded, any-told}
-use Rattle.wrong.proofs.Caught.{ends}
+use Rattle.idle.proofs.Caught.{ends}
 use Rattle.demands.proofs.lists.Lists.{In, in-left, any-in, none-any, those-in}
 use Rattle.demands.proofs.history.Past.{Past}
 use Rattle.stores.proofs.Sizes.{zero-bytes}

@@ -11,8 +11,8 @@ use lib.ListN.{replicate}
 use borrow.Author.Tests.{eq-eqb, lt-leb}
 use Rattle.demands.specs.DemandTwo.{Fulfils, Unrefused, Answers, Demand2}
 use Rattle.demands.specs.Finishing.{asks, asked, Finished, FinishedBy, Finishing}
-use Rattle.demands.specs.History.{Scan, History, history, scanOf, tells}
-use Rattle.wrong.specs.Idle.{Moment, pastThen, WithinSince, bytesSince, RefusesAll, buffer, PausesForEver, NeverStarts, Invents}
+use Rattle.demands.specs.History.{Scan, History, scanOf, tells}
+use Rattle.idle.specs.Idle.{Moment, pastThen, WithinSince, bytesSince, RefusesAll, buffer, PausesForEver, NeverStarts, Invents}
 use Rattle.demands.specs.Lives.{tableSlots, shelfEntries, events}
 use Rattle.demands.specs.Machine.{Machine, Within}
 use Rattle.demands.specs.Masks.{oneIf}
@@ -92,7 +92,7 @@ pauses-for-ever-caught M p d =
 
 first-begun : (N T R : ℕ) → leb N 0 ≡ false → (a : Answer) (o : List ℕ) → Answers T R (tells []) (reason N T R (tells []) Call.begin) Call.begin a o → a ≡ Answer.begun 1
 unfolding tells reasons firstOf Fulfils
-first-begun N T R e a o f = subst (λ (b : Bool). Answers T R (history 0 [] [] 0 []) (firstOf ((b, 9) ∷ (false, 11) ∷ [])) Call.begin a o) e f
+first-begun N T R e a o f = subst (λ (b : Bool). Answers T R (tells []) (firstOf ((b, 9) ∷ (false, 11) ∷ [])) Call.begin a o) e f
 
 pub never-starts-caught : (M : Machine) → NeverStarts M → Demand2 M → ⊥
 unfolding events

@@ -1,0 +1,9 @@
+pub mod OneMore
+pub mod Caught
+pub mod LeavesEveryByte
+pub mod InUse
+pub mod ShelvesOnce
+pub mod BothAccepted
+pub mod BothHanded
+pub mod HandsOut
+pub mod ShelvesFirstOnly
