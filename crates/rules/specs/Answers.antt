@@ -24,10 +24,10 @@ abbrev pub Refusal : Type 0
 Refusal = ℕ
 
 abbrev pub refusalNumber : Refusal → ℕ
-refusalNumber k = k
+refusalNumber j = j
 
 abbrev pub refusalValue : Refusal → ℕ
-refusalValue k = 0
+refusalValue j = 0
 
 pub data Answer : Type 0 where
   done : Answer
@@ -44,10 +44,10 @@ drawNumber (Draw.finished l b h) = 101
 
 unfoldable pub number : Answer → ℕ
 number done = 0
-number (begun t) = 0
+number (begun ticket) = 0
 number (drew d) = drawNumber d
 number (shown s) = 0
-number (refused k) = refusalNumber k
+number (refused j) = refusalNumber j
 
 -- "Value: begin, the ticket; next with 0 or 100, the looks; with 101, looks + 2,097,152 × handed; tally, records + 32,768 × entries;
 -- owed, its count; after a refusal, and otherwise, 0."
@@ -63,10 +63,10 @@ shownValue (Shown.part bs) = 0
 
 unfoldable pub value : Answer → ℕ
 value done = 0
-value (begun t) = t
+value (begun ticket) = ticket
 value (drew d) = drawValue d
 value (shown s) = shownValue s
-value (refused k) = refusalValue k
+value (refused j) = refusalValue j
 
 -- "return one 64-bit number, answer + 256 × value"
 unfoldable pub packed : Answer → ℕ
@@ -76,22 +76,22 @@ packed a = number a + 256 * value a
 
 unfoldable pub changeSays : ChangeAnswer → Answer
 changeSays ChangeAnswer.Done = done
-changeSays (ChangeAnswer.Refused k) = refused k
+changeSays (ChangeAnswer.Refused j) = refused j
 
 unfoldable pub beginSays : BeginAnswer → Answer
-beginSays (BeginAnswer.Begun t) = begun (t .0)
-beginSays (BeginAnswer.Refused k) = refused k
+beginSays (BeginAnswer.Begun ticket) = begun (ticket .0)
+beginSays (BeginAnswer.Refused j) = refused j
 
 unfoldable pub nextSays : NextAnswer → Answer
 nextSays (NextAnswer.InHand l b) = drew (Draw.inHand l b)
 nextSays (NextAnswer.Paused l) = drew (Draw.paused l)
 nextSays (NextAnswer.Finished l b h) = drew (Draw.finished l b h)
-nextSays (NextAnswer.Refused k) = refused k
+nextSays (NextAnswer.Refused j) = refused j
 
 unfoldable pub tallySays : TallyAnswer → Answer
 tallySays (TallyAnswer.Counted r e) = shown (Shown.counted r e)
-tallySays (TallyAnswer.Refused k) = refused k
+tallySays (TallyAnswer.Refused j) = refused j
 
 unfoldable pub owedSays : OwedAnswer → Answer
 owedSays (OwedAnswer.Owing c) = shown (Shown.owing c)
-owedSays (OwedAnswer.Refused k) = refused k
+owedSays (OwedAnswer.Refused j) = refused j

@@ -50,7 +50,7 @@ positionOf S ticket = first (λ i. eqb (cardOf S i .ticket .0) ticket) 0 64
 -- ---- "Open (N): writes a fresh desk (both active masks all ones, everything else zero but N, T, R) and zeroes table and shelf."
 
 unfoldable pub opened : ℕ → ℕ → ℕ → Store
-opened n t r = store (desk n t r 0 fresh (replicate 24 0) (replicate 64 idle)) (replicate t free) (replicate r free)
+opened n slots entries = store (desk n slots entries 0 fresh (replicate 24 0) (replicate 64 idle)) (replicate slots free) (replicate entries free)
 
 -- ---- "Insert: into the lowest empty slot, status mask = NOT (stable XOR local active)."
 

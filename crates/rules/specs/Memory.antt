@@ -31,7 +31,7 @@ free = slot 0 (replicate 52 0) 0
 
 -- "ticket (0 means no scan), place, handed, zero"
 abbrev pub card : ℕ → ℕ → ℕ → ℕ → Card
-card t p h w = record { ticket = record { 0 = t }; place = p; handed = h; rest = w }
+card ticket place handed rest = record { ticket = record { 0 = ticket }; place = place; handed = handed; rest = rest }
 
 abbrev pub idle : Card
 idle = card 0 0 0 0
@@ -48,7 +48,7 @@ pub record Desk : Type 0 where
   pub cards : List Card
 
 abbrev pub desk : ℕ → ℕ → ℕ → ℕ → Masks → List ℕ → List Card → Desk
-desk n t r g m z c = record { n = n; t = t; r = r; last = g; masks = m; zeros = z; cards = c }
+desk n slots entries last m z c = record { n = n; t = slots; r = entries; last = last; masks = m; zeros = z; cards = c }
 
 pub record Store : Type 0 where
   pub desk : Desk

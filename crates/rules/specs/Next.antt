@@ -57,7 +57,7 @@ tableLook false S p i =
 -- ones the entry is freed."
 
 abbrev pub onShelf : Store → ℕ → ℕ → Bool
-onShelf S p k = inUse (slotIn (S .shelf) k) && off (slotIn (S .shelf) k .mask) p
+onShelf S p e = inUse (slotIn (S .shelf) e) && off (slotIn (S .shelf) e .mask) p
 
 abbrev pub freedIf : Bool → Slot → ℕ → Slot
 freedIf true s m = free
@@ -66,11 +66,11 @@ freedIf false s m = slot (s .number) (s .body) m
 abbrev pub taken : Slot → ℕ → Slot
 taken s p = freedIf (allOnes 64 (REMSET-MASK-UPD (scanMask p) (s .mask))) s (REMSET-MASK-UPD (scanMask p) (s .mask))
 
--- the store after the look at entry k, and the version found there
+-- the store after the look at entry e, and the version found there
 unfoldable pub shelfLook : Bool → Store → ℕ → ℕ → Store × Option Slot
-shelfLook true S p k =
-    (store (deskWith (S .desk) (S .desk .masks) p (moved (cardOf S p) true)) (S .table) (set (S .shelf) k (taken (slotIn (S .shelf) k) p)), some (slotIn (S .shelf) k))
-shelfLook false S p k = (store (deskWith (S .desk) (S .desk .masks) p (moved (cardOf S p) false)) (S .table) (S .shelf), none)
+shelfLook true S p e =
+    (store (deskWith (S .desk) (S .desk .masks) p (moved (cardOf S p) true)) (S .table) (set (S .shelf) e (taken (slotIn (S .shelf) e) p)), some (slotIn (S .shelf) e))
+shelfLook false S p e = (store (deskWith (S .desk) (S .desk .masks) p (moved (cardOf S p) false)) (S .table) (S .shelf), none)
 
 -- ---- "looks at slots one at a time, table first, then shelf"; "place T + k is shelf entry k"
 
@@ -106,3 +106,7 @@ walk S p (suc b) l o =
 
 abbrev pub peeked : Store → ℕ → List ℕ
 peeked S ticket = walk S (positionOf S ticket) (T S + R S) 0 [] .out
+
+-- the place of that record: its look moves the place on by one
+abbrev pub peekedAt : Store → ℕ → ℕ
+peekedAt S ticket = cardOf (walk S (positionOf S ticket) (T S + R S) 0 [] .after) (positionOf S ticket) .place - 1

@@ -25,10 +25,10 @@ Well (Call.change (Change.insert k b)) = Passed k × All Byte b
 Well (Call.change (Change.modify k b)) = Passed k × All Byte b
 Well (Call.change (Change.delete k)) = Passed k
 Well Call.begin = Unit
-Well (Call.next t b o) = Passed t × Passed b × All Byte o
-Well (Call.reading (Reading.peek t)) = Passed t
+Well (Call.next ticket b o) = Passed ticket × Passed b × All Byte o
+Well (Call.reading (Reading.peek ticket)) = Passed ticket
 Well (Call.reading Reading.tally) = Unit
-Well (Call.reading (Reading.owed t)) = Passed t
+Well (Call.reading (Reading.owed ticket)) = Passed ticket
 
 pub record LentBytes (l : Lent) : Type 0 where
   pub desk : All Byte (l .desk)

@@ -50,7 +50,7 @@ unfoldable pub ownRight : Call → Bool
 ownRight (Call.opening n) = true
 ownRight (Call.change c) = bodyRight c
 ownRight Call.begin = true
-ownRight (Call.next t b o) = eqb (length o) 56
+ownRight (Call.next ticket b o) = eqb (length o) 56
 ownRight (Call.reading r) = true
 
 abbrev pub allRight : Lent → Call → Bool
@@ -64,7 +64,7 @@ Refusals = List (Bool × ℕ)
 -- "Where several apply, the lowest number is answered"
 unfoldable pub firstOf : Refusals → Option ℕ
 firstOf [] = none
-firstOf (t ∷ ts) = elim (t .0) [ true ↦ some (t .1) | false ↦ firstOf ts ]
+firstOf (line ∷ lines) = elim (line .0) [ true ↦ some (line .1) | false ↦ firstOf lines ]
 
 -- the kinds that a change may bear: "1 bound policy, 2 written quote, 3 spoken quote"
 abbrev pub kindRight : List ℕ → Bool
@@ -88,16 +88,16 @@ changeRefusals S (Change.modify k b) = (eqb k 0, 3) ∷ (not (kindRight b), 4) �
 changeRefusals S (Change.delete k) = (eqb k 0, 3) ∷ (not (there S k), 6) ∷ (noRoom S k, 8) ∷ []
 
 abbrev pub readingRefusals : Store → Reading → Refusals
-readingRefusals S (Reading.peek t) = (noScan S t, 10) ∷ []
+readingRefusals S (Reading.peek ticket) = (noScan S ticket, 10) ∷ []
 readingRefusals S Reading.tally = []
-readingRefusals S (Reading.owed t) = (noScan S t, 10) ∷ []
+readingRefusals S (Reading.owed ticket) = (noScan S ticket, 10) ∷ []
 
 -- lines 3 to 11
 unfoldable pub ownRefusals : Store → Call → Refusals
 ownRefusals S (Call.opening n) = (not (nInRange n), 3) ∷ []
 ownRefusals S (Call.change c) = changeRefusals S c
 ownRefusals S Call.begin = (not (ltb (freePosition S) (S .desk .n)), 9) ∷ (eqb (S .desk .last) 4294967295, 11) ∷ []
-ownRefusals S (Call.next t b o) = (noScan S t, 10) ∷ []
+ownRefusals S (Call.next ticket b o) = (noScan S ticket, 10) ∷ []
 ownRefusals S (Call.reading r) = readingRefusals S r
 
 -- "open gives only 1 and 3": it "looks at nothing that was there before"
@@ -105,7 +105,7 @@ unfoldable pub looksAtDesk : Call → Bool
 looksAtDesk (Call.opening n) = false
 looksAtDesk (Call.change c) = true
 looksAtDesk Call.begin = true
-looksAtDesk (Call.next t b o) = true
+looksAtDesk (Call.next ticket b o) = true
 looksAtDesk (Call.reading r) = true
 
 -- lines 1 to 11
@@ -120,30 +120,30 @@ changesTo S (Change.modify k b) = changed S (bearing (S .table) k) (some b)
 changesTo S (Change.delete k) = changed S (bearing (S .table) k) none
 
 abbrev pub shows : Store → Reading → Shown
-shows S (Reading.peek t) = Shown.part (peeked S t)
+shows S (Reading.peek ticket) = Shown.part (peeked S ticket)
 shows S Reading.tally = Shown.counted (used (S .table)) (used (S .shelf))
-shows S (Reading.owed t) = Shown.owing (owedBy S (positionOf S t))
+shows S (Reading.owed ticket) = Shown.owing (owedBy S (positionOf S ticket))
 
 unfoldable pub effect : Store → Call → Told
 effect S (Call.opening n) = told done (opened n (T S) (R S)) []
 effect S (Call.change c) = told done (changesTo S c) []
 effect S Call.begin = told (begun (S .desk .last + 1)) (given S (freePosition S)) []
-effect S (Call.next t b o) = walk S (positionOf S t) b 0 o
+effect S (Call.next ticket b o) = walk S (positionOf S ticket) b 0 o
 effect S (Call.reading r) = told (shown (shows S r)) S []
 
 -- ---- what a refused call gives: "Refusals 1 to 11 change no byte."
 
 -- peek is refused by an empty part
 abbrev pub refusedReading : Reading → ℕ → Answer
-refusedReading (Reading.peek t) j = shown (Shown.part [])
+refusedReading (Reading.peek ticket) j = shown (Shown.part [])
 refusedReading Reading.tally j = refused j
-refusedReading (Reading.owed t) j = refused j
+refusedReading (Reading.owed ticket) j = refused j
 
 unfoldable pub refusedAs : Call → ℕ → Answer
 refusedAs (Call.opening n) j = refused j
 refusedAs (Call.change c) j = refused j
 refusedAs Call.begin j = refused j
-refusedAs (Call.next t b o) j = refused j
+refusedAs (Call.next ticket b o) j = refused j
 refusedAs (Call.reading r) j = refusedReading r j
 
 -- the hand-out buffer that a call is lent
@@ -151,7 +151,7 @@ unfoldable pub outOf : Call → List ℕ
 outOf (Call.opening n) = []
 outOf (Call.change c) = []
 outOf Call.begin = []
-outOf (Call.next t b o) = o
+outOf (Call.next ticket b o) = o
 outOf (Call.reading r) = []
 
 -- ---- the rule of a call on a sound desk: lines 3 to 11, else the effect

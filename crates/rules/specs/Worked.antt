@@ -1,5 +1,5 @@
 -- "Sessions worked through": every figure of P1 to P12 and of the own session around them, as the rules give it and as
--- document 01 has it.
+-- document 01 has it: on a store here, on lent bytes in crate `worked`.
 use mathlib.Core.Bool.{Bool, true, false}
 use mathlib.Core.List.{List, [], _∷_, _++_}
 use Prim.Native.Nat.{ℕ, _+_, _*_}
@@ -8,8 +8,9 @@ use Rattle.rules.specs.Answers.{packed}
 use Rattle.rules.specs.Bytes.{toLe}
 use Rattle.rules.specs.Calls.{slotIn, cardOf}
 use Rattle.rules.specs.Masks.{NOT, allOnes, on, REMSET-MASK-INS, REMSET-MASK-UPD, STATUS-MASK-UPD, STABLE-FLIP}
-use Rattle.rules.specs.Memory.{Lent, lent, Slot, slot, free, read, version}
-use Rattle.rules.specs.Refusals.{Call, Change, Reply, called}
+use Rattle.rules.specs.Memory.{Lent, lent, Slot, slot, free, Store, read, version}
+use Rattle.rules.specs.Next.{Told}
+use Rattle.rules.specs.Refusals.{Call, Change, step}
 
 pub data Figure : Type 0 where
   mask : ℕ → Figure
@@ -46,10 +47,10 @@ paper =
     ∷ (mask (STABLE-FLIP 0b11100 0b10000), mask 0b01100)
     ∷ []
 
--- ---- what is seen of a reply
+-- ---- what is seen after a call
 
 abbrev pub Sight : Type 0
-Sight = (Reply → Figure) × Figure
+Sight = (Told → Figure) × Figure
 
 unfoldable pub comesBack : ℕ → Sight
 comesBack n = ((λ r. returns (packed (r .answer))), returns n)
@@ -58,19 +59,19 @@ unfoldable pub handed : ℕ → List ℕ → Sight
 handed k b = ((λ r. hands (r .out)), hands (version (slot k b 0)))
 
 unfoldable pub inSlot : ℕ → Slot → Sight
-inSlot i s = ((λ r. holds (slotIn (read (r .after) .table) i)), holds s)
+inSlot i s = ((λ r. holds (slotIn (r .after .table) i)), holds s)
 
 unfoldable pub inEntry : ℕ → Slot → Sight
-inEntry k s = ((λ r. holds (slotIn (read (r .after) .shelf) k)), holds s)
+inEntry e s = ((λ r. holds (slotIn (r .after .shelf) e)), holds s)
 
 unfoldable pub atPosition : ℕ → ℕ → Sight
-atPosition p t = ((λ r. ticket (cardOf (read (r .after)) p .ticket .0)), ticket t)
+atPosition p given = ((λ r. ticket (cardOf (r .after) p .ticket .0)), ticket given)
 
 unfoldable pub emptyShelf : Sight
-emptyShelf = ((λ r. entries (read (r .after) .shelf)), entries (replicate 8 free))
+emptyShelf = ((λ r. entries (r .after .shelf)), entries (replicate 8 free))
 
 unfoldable pub oneMeansStable : ℕ → Sight
-oneMeansStable p = ((λ r. stableIsOne (on (read (r .after) .desk .masks .stable) p)), stableIsOne true)
+oneMeansStable p = ((λ r. stableIsOne (on (r .after .desk .masks .stable) p)), stableIsOne true)
 
 -- ---- "Own session, N = 2, T = 4, R = 8."
 
@@ -104,7 +105,7 @@ abbrev pub allBut : ℕ → ℕ
 allBut x = NOT 64 x
 
 abbrev pub next : ℕ → ℕ → Call
-next t b = Call.next t b (replicate 56 0)
+next given budget = Call.next given budget (replicate 56 0)
 
 unfoldable pub session : List Turn
 session =
@@ -143,22 +144,22 @@ session =
     ∷ (next 3 100, handed 14 D ∷ [])
     ∷ []
 
--- ---- the session run on lent bytes, and the one list
+-- ---- the session run on a store, and the one list
 
-unfoldable pub seen : Reply → List Sight → List Beside
+unfoldable pub seen : Told → List Sight → List Beside
 seen r [] = []
 seen r (s ∷ ss) = (s .0 r, s .1) ∷ seen r ss
 
-unfoldable pub run : Lent → List Turn → List Beside
-run l [] = []
-run l (t ∷ ts) = seen (called l (t .0)) (t .1) ++ run (called l (t .0) .after) ts
+unfoldable pub run : Store → List Turn → List Beside
+run S [] = []
+run S (turn ∷ turns) = seen (step S (turn .0)) (turn .1) ++ run (step S (turn .0) .after) turns
 
 -- bytes of whatever stood there before the opening
 unfoldable pub before : Lent
 before = lent (replicate 1088 255) (replicate 256 170) (replicate 512 85)
 
 unfoldable pub worked : List Beside
-worked = paper ++ run before session
+worked = paper ++ run (read before) session
 
 unfoldable pub ruled : List Beside → List Figure
 ruled [] = []

@@ -39,6 +39,13 @@ impl SlotNumber {
         self.0 < end
     }
 
+    // How many come before it.
+    pub fn index(self) -> usize
+        ensures { λ r. ⌜ r ≡ self .0 ⌝ }
+    {
+        self.0
+    }
+
     // Where it starts in the bytes, in a buffer of slots of one size.
     pub fn offset(self, size: usize) -> usize
         requires { ⌜ self .0 * size < 18446744073709551616 ⌝ }

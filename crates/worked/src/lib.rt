@@ -1,0 +1,1 @@
+// No code: document 01's worked sessions on lent bytes.
