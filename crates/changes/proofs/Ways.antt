@@ -16,30 +16,20 @@ use Rattle.rules.specs.Masks.{Masks, ones, fresh, newStatus, mOf, REMSET-MASK-I
 use Rattle.rules.specs.Memory.{Store, T, R, slotsOf, masksOf, storeOf, masksBytes}
 use Rattle.rules.specs.Next.{told}
 use Rattle.rules.specs.Refusals.{Call, Change, step, kindRight}
-use Rattle.rules.specs.Sound.{nInRange}
 use Rattle.rules.proofs.Bytes.{Bytes, u64-small}
 use Rattle.layout.specs.Puts.{put, put32, put64}
-use Rattle.laws.specs.Search.{bears, bearsOrEmpty}
-use Rattle.laws.proofs.Slots.{count}
-use Rattle.laws.proofs.Search.{bearing-is, pass-number, pass-empty}
-use Rattle.laws.proofs.Cases.{open-range, open-done, insert-zero, insert-kind, insert-there, insert-full, insert-done, modify-zero, modify-kind, modify-absent, modify-unawaited, modify-room, modify-awaited, delete-zero, delete-absent, delete-unawaited, delete-room, delete-awaited}
-use Rattle.laws.proofs.Effects.{m-at, inserted-spelt, modified-spelt, deleted-spelt, modified-shelved-spelt, deleted-shelved-spelt}
-use Rattle.laws.proofs.Opens.{opened-spelt}
+use Rattle.joins.specs.Search.{bears, bearsOrEmpty}
+use Rattle.joins.proofs.Slots.{count, slots-there, entries-there}
+use Rattle.joins.proofs.Search.{bearing-is, pass-number, pass-empty}
+use Rattle.joins.proofs.Cases.{insert-zero, insert-kind, insert-there, insert-full, insert-done, modify-zero, modify-kind, modify-absent, modify-unawaited, modify-room, modify-awaited, delete-zero, delete-absent, delete-unawaited, delete-room, delete-awaited}
+use Rattle.joins.proofs.Effects.{m-at, inserted-spelt, modified-spelt, deleted-spelt, modified-shelved-spelt, deleted-shelved-spelt}
 use Rattle.shelving.specs.declared.Kept.{Kept}
-use Rattle.shelving.specs.Keeps.{goesOn, mIn, keeps}
+use Rattle.shelving.specs.Keeps.{goesOn, mIn, entryTaken, keeps}
 use Rattle.shelving.proofs.Keeps.{unawaited-says, shelved-says, no-room-says}
 
 -- ---- the store that lent bytes spell
 
 module _ (d t s : List ℕ) where
-  slots-there : T (storeOf d t s) ≡ length t / 64
-  unfolding storeOf
-  slots-there = count t
-
-  entries-there : R (storeOf d t s) ≡ length s / 64
-  unfolding storeOf
-  entries-there = count s
-
   bearing-there : (k : ℕ) → bearing (storeOf d t s .table) k ≡ first (bears (slotsOf t) k) 0 (length t / 64)
   unfolding storeOf
   bearing-there k = rw (count t) refl
@@ -48,19 +38,9 @@ module _ (d t s : List ℕ) where
   unfolding storeOf
   empty-there = rw (count t) refl
 
-  entry-there : shelfEntry (storeOf d t s) ≡ emptySlot (slotsOf s)
+  entry-there : shelfEntry (storeOf d t s) ≡ entryTaken s
   unfolding storeOf
   entry-there = refl
-
--- ---- open
-
-module _ (d t s : List ℕ) (n : ℕ) where
-  pub opens : {d′ t′ s′ : List ℕ} {a b : ℕ} → length d ≡ 1088 → n < 4294967296 → length t / 64 < 4294967296 → length s / 64 < 4294967296 → nInRange n ≡ true
-      → a ≡ length t / 64 → b ≡ length s / 64 → d′ ≡ put (put32 (put32 (put32 (replicate (length d) 0) 0 n) 4 a) 8 b) 16 (masksBytes fresh) → t′ ≡ replicate (length t) 0 → s′ ≡ replicate (length s) 0
-      → told done (storeOf d′ t′ s′) [] ≡ step (storeOf d t s) (Call.opening n)
-  opens {d′} {t′} {s′} {a} {b} h sn st ss e ea eb ed et es =
-      let x : d′ ≡ put (put32 (put32 (put32 (replicate 1088 0) 0 n) 4 (length t / 64)) 8 (length s / 64)) 16 (masksBytes fresh) = rw (ed, h, ea, eb) refl in
-      rw (x, et, es, opened-spelt n (length t / 64) (length s / 64) sn st ss (length t) (length s) refl refl, ← slots-there d t s, ← entries-there d t s) (open-done (storeOf d t s) n e)
 
 -- ---- insert
 
@@ -143,7 +123,7 @@ module _ (d t s : List ℕ) (k i : ℕ) (ei : i ≡ first (bears (slotsOf t) k) 
       awaited : mAt (storeOf d t s) (bearing (storeOf d t s .table) k) ≡ ones 64 → ⊥
       awaited x = shelved-says m t s s′ i kept .0 (m-here ∙ x)
 
-      has-entry : emptySlot (slotsOf s) < length s / 64
+      has-entry : entryTaken s < length s / 64
       has-entry = shelved-says m t s s′ i kept .1
 
       some-entry : shelfEntry (storeOf d t s) < R (storeOf d t s)
@@ -157,13 +137,13 @@ module _ (d t s : List ℕ) (k i : ℕ) (ei : i ≡ first (bears (slotsOf t) k) 
           → told done (storeOf d t₂ s′) [] ≡ step (storeOf d t s) (Call.change (Change.modify k b))
       modifies-shelved b z e eb e₁ es e₂ =
           rw (e₂, e₁, es, shelved-says m t s s′ i kept .2)
-          (rw (em) (rw (modified-shelved-spelt d t s i hi (emptySlot (slotsOf s)) (mIn (masksOf d) t i) has-entry (entry-there d t s) (rw em at m-small) (rw (em, bearer) at m-here) b eb, ← bearer)
+          (rw (em) (rw (modified-shelved-spelt d t s i hi (entryTaken s) (mIn (masksOf d) t i) has-entry (entry-there d t s) (rw em at m-small) (rw (em, bearer) at m-here) b eb, ← bearer)
           (modify-awaited (storeOf d t s) k b z e there awaited some-entry)))
 
       pub deletes-shelved : (k ≡ 0 → ⊥) → {t′ : List ℕ} → t′ ≡ put t (i * 64) (replicate 64 0) → told done (storeOf d t′ s′) [] ≡ step (storeOf d t s) (Call.change (Change.delete k))
       deletes-shelved z et =
           rw (et, shelved-says m t s s′ i kept .2)
-          (rw (em) (rw (deleted-shelved-spelt d t s i hi (emptySlot (slotsOf s)) (mIn (masksOf d) t i) has-entry (entry-there d t s) (rw em at m-small) (rw (em, bearer) at m-here), ← bearer)
+          (rw (em) (rw (deleted-shelved-spelt d t s i hi (entryTaken s) (mIn (masksOf d) t i) has-entry (entry-there d t s) (rw em at m-small) (rw (em, bearer) at m-here), ← bearer)
           (delete-awaited (storeOf d t s) k z there awaited some-entry)))
 
     -- delete: whatever became of the version

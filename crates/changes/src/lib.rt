@@ -1,12 +1,10 @@
-// The calls that change records: open, insert, modify, delete, on a sound desk and buffers of right lengths.
+// The calls that change records, on a sound desk and buffers of right lengths: insert, modify and delete.
 ghost use mathlib.Core.Path.{_≡_};
-ghost use mathlib.Core.List.{List, []};
 ghost use Prim.Native.Nat.{ℕ, _+_, _*_, _-_, _/_, _≤_, _<_};
 ghost use lib.ListN.{length};
 ghost use Rattle.rules.specs.Answers.{changeSays};
-ghost use Rattle.rules.specs.Memory.{storeOf};
-ghost use Rattle.rules.specs.Next.{told};
-ghost use Rattle.rules.specs.Refusals.{Call, Change, step, kindRight};
+ghost use Rattle.rules.specs.Contracts.{Tells, TellsOverAnyShelf};
+ghost use Rattle.rules.specs.Refusals.{Call, Change, kindRight};
 use rules::ChangeAnswer;
 use rules::RecordNumber;
 use rules::SlotNumber;
@@ -19,32 +17,17 @@ fn kind_right(body: &[u8]) -> bool
     numbers::lengths::kind_right(body[4])
 }
 
-pub fn open(desk: &mut [u8], table: &mut [u8], shelf: &mut [u8], n: u32) -> ChangeAnswer
-    requires { ⌜ (length (now desk) ≡ 1088) × (length (now table) / 64 < 4294967296) × (length (now shelf) / 64 < 4294967296) ⌝ }
-    ensures { λ r. ⌜ told (changeSays r) (storeOf (now (desk .exit)) (now (table .exit)) (now (shelf .exit))) [] ≡ step (storeOf (now (desk .entry)) (now (table .entry)) (now (shelf .entry))) (Call.opening n) ⌝ }
-{
-    if (1 <= n) & (n <= 64) {
-        let t = slots::slot_count(table) as u32;
-        let r = slots::slot_count(shelf) as u32;
-        desk::write::put_fresh(desk, n, t, r);
-        layout::clear_all(table);
-        layout::clear_all(shelf);
-        return ChangeAnswer::Done;
-    }
-    ChangeAnswer::Refused(3)
-}
-
 pub fn insert(desk: &[u8], table: &mut [u8], k: RecordNumber, body: &[u8]) -> ChangeAnswer
     requires { ⌜ (length (now desk) ≡ 1088) × (length (now body) ≡ 52) ⌝ }
-    ensures { λ r. ⌜ ((s : List ℕ) → told (changeSays r) (storeOf (now (desk .entry)) (now (table .exit)) s) [] ≡ step (storeOf (now (desk .entry)) (now (table .entry)) s) (Call.change (Change.insert (k .0) (now (body .entry))))) ⌝ }
+    ensures { λ r. ⌜ TellsOverAnyShelf (changeSays r) desk table (Call.change (Change.insert (k .0) (now (body .entry)))) ⌝ }
 {
     if k.word() == 0 {
         return ChangeAnswer::Refused(3);
     }
     if kind_right(body) {
         let end = slots::slot_count(table);
-        let free = slots::bearing_or_empty(table, k);
-        let there = slots::bearing(table, k, free);
+        let free = search::bearing_or_empty(table, k);
+        let there = search::bearing(table, k, free);
         if there.below(end) {
             return ChangeAnswer::Refused(5);
         }
@@ -66,13 +49,13 @@ pub fn modify(
     body: &[u8],
 ) -> ChangeAnswer
     requires { ⌜ (length (now desk) ≡ 1088) × (length (now body) ≡ 52) ⌝ }
-    ensures { λ r. ⌜ told (changeSays r) (storeOf (now (desk .entry)) (now (table .exit)) (now (shelf .exit))) [] ≡ step (storeOf (now (desk .entry)) (now (table .entry)) (now (shelf .entry))) (Call.change (Change.modify (k .0) (now (body .entry)))) ⌝ }
+    ensures { λ r. ⌜ Tells (changeSays r) desk table shelf (Call.change (Change.modify (k .0) (now (body .entry)))) ⌝ }
 {
     if k.is_none() {
         return ChangeAnswer::Refused(3);
     }
     if kind_right(body) {
-        let i = slots::bearing(table, k, SlotNumber(0));
+        let i = search::bearing(table, k, SlotNumber(0));
         if i.below(slots::slot_count(table)) {
             let masks = desk::masks_at(desk);
             let kept = shelving::keep(masks, table, shelf, i);
@@ -98,12 +81,12 @@ pub fn modify(
 
 pub fn delete(desk: &[u8], table: &mut [u8], shelf: &mut [u8], k: RecordNumber) -> ChangeAnswer
     requires { ⌜ length (now desk) ≡ 1088 ⌝ }
-    ensures { λ r. ⌜ told (changeSays r) (storeOf (now (desk .entry)) (now (table .exit)) (now (shelf .exit))) [] ≡ step (storeOf (now (desk .entry)) (now (table .entry)) (now (shelf .entry))) (Call.change (Change.delete (k .0))) ⌝ }
+    ensures { λ r. ⌜ Tells (changeSays r) desk table shelf (Call.change (Change.delete (k .0))) ⌝ }
 {
     if k.is_none() {
         return ChangeAnswer::Refused(3);
     }
-    let i = slots::bearing(table, k, SlotNumber(0));
+    let i = search::bearing(table, k, SlotNumber(0));
     if i.below(slots::slot_count(table)) {
         let kept = shelving::keep(desk::masks_at(desk), table, shelf, i);
         if kept.goes_on() {

@@ -1,13 +1,2 @@
-pub mod Position
-pub mod Every
-pub mod Zeros
-pub mod WordsRead
-pub mod MaskBits
-pub mod OneCard
-pub mod AllCards
-pub mod CardCases
-pub mod DeskCases
-pub mod HeadRules
-pub mod Sound
-pub mod Says
-pub mod Fresh
+pub mod Read
+pub mod Written

@@ -1,3 +1,1 @@
-pub mod Every
-pub mod Words
-pub mod Cards
+pub mod Tickets

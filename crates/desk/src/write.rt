@@ -17,10 +17,17 @@ pub fn put_fresh(desk: &mut [u8], n: u32, t: u32, r: u32)
     ensures { λ x. ⌜ now (desk .exit) ≡ put (put32 (put32 (put32 (replicate (length (now (desk .entry))) 0) 0 n) 4 t) 8 r) 16 (masksBytes fresh) ⌝ }
 {
     layout::clear_all(desk);
+    put_counts(desk, n, t, r);
+    put_masks(desk, Masks::fresh());
+}
+
+fn put_counts(desk: &mut [u8], n: u32, t: u32, r: u32)
+    requires { ⌜ length (now desk) ≡ 1088 ⌝ }
+    ensures { λ x. ⌜ now (desk .exit) ≡ put32 (put32 (put32 (now (desk .entry)) 0 n) 4 t) 8 r ⌝ }
+{
     layout::set32(desk, 0, n);
     layout::set32(desk, 4, t);
     layout::set32(desk, 8, r);
-    put_masks(desk, Masks::fresh());
 }
 
 pub fn put_last_ticket(desk: &mut [u8], ticket: Ticket)
@@ -44,8 +51,7 @@ pub fn put_card(desk: &mut [u8], p: Position, c: Card)
     ensures { λ r. ⌜ now (desk .exit) ≡ put (now (desk .entry)) (64 + p .0 * 16) (cardBytes c) ⌝ }
 {
     let at = 64 + p.offset(16);
-    let ticket = c.ticket;
-    layout::set32(desk, at, ticket.word());
+    layout::set32(desk, at, c.ticket.word());
     layout::set32(desk, at + 4, c.place);
     layout::set32(desk, at + 8, c.handed);
     layout::set32(desk, at + 12, c.rest);

@@ -1,18 +1,22 @@
 -- What the contracts leave open: nothing. Two results that meet one contract are equal, and a refusal leaves every byte.
-use mathlib.Core.Path.{_≡_, refl, sym, ap, _∙_}
+use mathlib.Core.Path.{_≡_, refl, sym, ap, _∙_, subst}
+use mathlib.Core.Bool.{Bool, true, false}
 use mathlib.Core.Option.{some}
 use mathlib.Core.List.{List, []}
-use denote.Ref.{now}
-use Prim.Native.Nat.{ℕ}
+use denote.Ref.{RefT, ptr, now}
+use Prim.Native.Nat.{ℕ, _+_, _*_, _-_}
+use lib.Dec.{ltb}
+use borrow.Author.Tests.{ltb-true, ltb-false}
 use Rattle.rules.specs.declared.BeginAnswer.{BeginAnswer}
 use Rattle.rules.specs.declared.ChangeAnswer.{ChangeAnswer}
 use Rattle.rules.specs.declared.NextAnswer.{NextAnswer}
 use Rattle.rules.specs.declared.OwedAnswer.{OwedAnswer}
 use Rattle.rules.specs.declared.TallyAnswer.{TallyAnswer}
 use Rattle.rules.specs.Answers.{Answer, Draw, Shown, done, begun, refused, changeSays, beginSays, nextSays, tallySays, owedSays}
-use Rattle.rules.specs.Memory.{Lent}
+use Rattle.rules.specs.Memory.{Lent, T, read}
+use Rattle.rules.specs.Next.{peekedAt}
 use Rattle.rules.specs.Refusals.{Call, firstOf, refusals, refusedAs, outOf, Reply, reply, replied, called, Returned, returned, packedReply}
-use Rattle.rules.specs.Contracts.{Buffer, before, after, Answers, HandsOut, Returns, ReturnsOut}
+use Rattle.rules.specs.Contracts.{Buffer, before, after, stood, Answers, HandsOut, Returns, ReturnsOut, LiesAt, NoCopy}
 
 -- ---- an enum of the code is told by its answer
 
@@ -131,6 +135,18 @@ module _ (c : Call) (d₁ t₁ s₁ d₂ t₂ s₂ : Buffer) (alike : before d�
   pub peek-once : (x y : List ℕ) → Answers (Answer.shown (Shown.part x)) d₁ t₁ s₁ c → Answers (Answer.shown (Shown.part y)) d₂ t₂ s₂ c → (x ≡ y) × (after d₁ t₁ s₁ ≡ after d₂ t₂ s₂)
   unfolding partBack
   peek-once x y p q = let z = once (λ (z : List ℕ). Answer.shown (Shown.part z)) partBack (λ v. refl) c alike p q in (z .0, z .1)
+
+  -- and where it lies, in a table and a shelf that lie there
+  pub part-once : (x y : RefT (List ℕ)) (ticket : ℕ) → ptr (t₁ .entry) ≡ ptr (t₂ .entry) → ptr (s₁ .entry) ≡ ptr (s₂ .entry)
+      → NoCopy x d₁ t₁ s₁ ticket → NoCopy y d₂ t₂ s₂ ticket → (now x ≡ [] → ⊥) → (now y ≡ [] → ⊥) → ptr x ≡ ptr y
+  part-once x y ticket et es p q nx ny = go (ltb (peekedAt (stood d₁ t₁ s₁) ticket) (T (stood d₁ t₁ s₁))) refl
+    where
+      here : LiesAt y t₂ s₂ (T (stood d₁ t₁ s₁)) (peekedAt (stood d₁ t₁ s₁) ticket)
+      here = subst (λ (k : Lent). LiesAt y t₂ s₂ (T (read k)) (peekedAt (read k) ticket)) (sym alike) (q ny)
+
+      go : (b : Bool) → ltb (peekedAt (stood d₁ t₁ s₁) ticket) (T (stood d₁ t₁ s₁)) ≡ b → ptr x ≡ ptr y
+      go true e = let h = ltb-true _ _ e in p nx .inTable h ∙ ap (λ (a : _). (a .0, peekedAt (stood d₁ t₁ s₁) ticket * 64 + a .1)) et ∙ sym (here .inTable h)
+      go false e = let h = ltb-false _ _ e in p nx .onShelf h ∙ ap (λ (a : _). (a .0, (peekedAt (stood d₁ t₁ s₁) ticket - T (stood d₁ t₁ s₁)) * 64 + a .1)) es ∙ sym (here .onShelf h)
 
   pub next-once : (o₁ o₂ : Buffer) (a b : NextAnswer) → HandsOut (nextSays a) d₁ t₁ s₁ o₁ c → HandsOut (nextSays b) d₂ t₂ s₂ o₂ c → (a ≡ b) × (after d₁ t₁ s₁ ≡ after d₂ t₂ s₂) × (now (o₁ .exit) ≡ now (o₂ .exit))
   next-once o₁ o₂ a b p q = once nextSays nextBack next-told c alike p q

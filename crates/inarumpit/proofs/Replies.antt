@@ -16,7 +16,7 @@ use Rattle.rules.specs.Sound.{sound}
 use Rattle.rules.proofs.Bytes.{Bytes}
 use Rattle.rules.proofs.RoundTrip.{Right, written-read}
 use Rattle.inarumpit.specs.WayIn.{orZero, wayIn}
-use Rattle.laws.proofs.Bools.{and-left, and-right}
+use Rattle.joins.proofs.Bools.{and-left, and-right}
 
 -- ---- refused, and on its way
 
@@ -107,7 +107,15 @@ looked true true e f = refl
 looked true false e f = absurd (mathlib.Core.Bool.false≢true (sym e))
 looked false ok e f = absurd (mathlib.Core.Bool.false≢true f)
 
-module _ (d t s : List ℕ) (c : Call) {k : ℕ} (way : k ≡ wayIn (ownRight c) (looksAtDesk c) d t s) where
+-- a call that was let in: all that it was lent is right, and sound where it looks at the desk
+pub record LetIn (d t s : List ℕ) (c : Call) : Type 0 where
+  pub fits : allRight (lent d t s) c ≡ true
+  pub looks : looksAtDesk c && not (sound (storeOf d t s)) ≡ false
+  pub deskBytes : Bytes d
+  pub tableBytes : Bytes t
+  pub shelfBytes : Bytes s
+
+module _ {d t s : List ℕ} (c : Call) {k : ℕ} (way : k ≡ wayIn (ownRight c) (looksAtDesk c) d t s) where
   -- it is shut
   pub by-refusal : (k ≡ 0 → ⊥) → reply (refusedAs c k) (lent d t s) (outOf c) ≡ called (lent d t s) c
   unfolding wayIn refusals
@@ -116,31 +124,39 @@ module _ (d t s : List ℕ) (c : Call) {k : ℕ} (way : k ≡ wayIn (ownRight c)
       (stopped (allRight (lent d t s) c) (looksAtDesk c && not (sound (storeOf d t s))) (ownRefusals (storeOf d t s) c) (λ e. n (way ∙ e)) ∙ ap some (sym way))
 
   -- it is open
-  module _ (open-way : k ≡ 0) where
-    through : (allRight (lent d t s) c ≡ true) × (looksAtDesk c && not (sound (storeOf d t s)) ≡ false)
-    unfolding wayIn
-    through = passed (allRight (lent d t s) c) (looksAtDesk c && not (sound (storeOf d t s))) (sym way ∙ open-way)
+  pub let-in : k ≡ 0 → Bytes d → Bytes t → Bytes s → LetIn d t s c
+  unfolding wayIn
+  let-in e bd bt bs =
+      let through = passed (allRight (lent d t s) c) (looksAtDesk c && not (sound (storeOf d t s))) (sym way ∙ e) in
+      record { fits = through .0; looks = through .1; deskBytes = bd; tableBytes = bt; shelfBytes = bs }
 
-    pub by-lengths : Lengths (length d) (length t) (length s)
-    by-lengths = lengths-say (length d) (length t) (length s) (and-right (ownRight c) _ (through .0))
+module _ {d t s : List ℕ} {c : Call} (l : LetIn d t s c) where
+  pub by-lengths : Lengths (length d) (length t) (length s)
+  by-lengths = lengths-say (length d) (length t) (length s) (and-right (ownRight c) _ (l .fits))
 
-    pub by-own : ownRight c ≡ true
-    by-own = and-left (ownRight c) _ (through .0)
+  pub by-own : ownRight c ≡ true
+  by-own = and-left (ownRight c) _ (l .fits)
 
-    pub by-sound : looksAtDesk c ≡ true → sound (storeOf d t s) ≡ true
-    by-sound = looked (looksAtDesk c) (sound (storeOf d t s)) (through .1)
+  pub by-sound : looksAtDesk c ≡ true → sound (storeOf d t s) ≡ true
+  by-sound = looked (looksAtDesk c) (sound (storeOf d t s)) (l .looks)
 
-    -- the rule's answer, store and hand-out buffer; the bytes are as many as before
-    module _ (bd : Bytes d) (bt : Bytes t) (bs : Bytes s) (d′ t′ s′ : List ℕ) (nd : length d′ ≡ length d) (nt : length t′ ≡ length t) (ns : length s′ ≡ length s) (bd′ : Bytes d′) (bt′ : Bytes t′) (bs′ : Bytes s′)
-        {a : Answer} {o : List ℕ} (rule : told a (storeOf d′ t′ s′) o ≡ step (storeOf d t s) c) where
-      before : Right (lent d t s)
-      before = let z = by-lengths in record { deskLength = z .desk; tableWhole = z .table; shelfWhole = z .shelf; deskBytes = bd; tableBytes = bt; shelfBytes = bs }
+  before : Right (lent d t s)
+  before =
+      let z = by-lengths in
+      record { deskLength = z .desk; tableWhole = z .table; shelfWhole = z .shelf; deskBytes = l .deskBytes; tableBytes = l .tableBytes; shelfBytes = l .shelfBytes }
 
-      after : Right (lent d′ t′ s′)
-      after =
-          let z = by-lengths in
-          record { deskLength = nd ∙ z .desk; tableWhole = rw nt (z .table); shelfWhole = rw ns (z .shelf); deskBytes = bd′; tableBytes = bt′; shelfBytes = bs′ }
+  -- the rule's answer, store and hand-out buffer; the bytes are as many as before
+  module _ {d′ t′ s′ : List ℕ} (nd : length d′ ≡ length d) (nt : length t′ ≡ length t) (ns : length s′ ≡ length s) (bd : Bytes d′) (bt : Bytes t′) (bs : Bytes s′)
+      {a : Answer} {o : List ℕ} (rule : told a (storeOf d′ t′ s′) o ≡ step (storeOf d t s) c) where
+    after : Right (lent d′ t′ s′)
+    after =
+        let z = by-lengths in
+        record { deskLength = nd ∙ z .desk; tableWhole = rw nt (z .table); shelfWhole = rw ns (z .shelf); deskBytes = bd; tableBytes = bt; shelfBytes = bs }
 
-      pub by-rule : reply a (lent d′ t′ s′) o ≡ called (lent d t s) c
-      by-rule =
-          ap (λ (b : Lent). reply a b o) (sym (written-read (lent d′ t′ s′) after)) ∙ ap writtenAll rule ∙ replied-on (lent d t s) c before (through .0) (through .1)
+    pub by-rule : reply a (lent d′ t′ s′) o ≡ called (lent d t s) c
+    by-rule =
+        ap (λ (b : Lent). reply a b o) (sym (written-read (lent d′ t′ s′) after)) ∙ ap writtenAll rule ∙ replied-on (lent d t s) c before (l .fits) (l .looks)
+
+  -- of a call that changes no byte
+  pub by-reading : {a : Answer} {o : List ℕ} → told a (storeOf d t s) o ≡ step (storeOf d t s) c → reply a (lent d t s) o ≡ called (lent d t s) c
+  by-reading = by-rule refl refl refl (l .deskBytes) (l .tableBytes) (l .shelfBytes)

@@ -18,7 +18,7 @@ fn way_in(desk: &[u8], table: &[u8], shelf: &[u8]) -> u8
     ensures { λ r. ⌜ r ≡ wayIn true true (now (desk .entry)) (now (table .entry)) (now (shelf .entry)) ⌝ }
 {
     if numbers::lengths::lengths_right(desk.len(), table.len(), shelf.len()) {
-        if desk::is_sound(desk, table, shelf) {
+        if soundness::is_sound(desk, table, shelf) {
             return 0;
         }
         return 2;
@@ -31,7 +31,7 @@ fn own_way_in(own: bool, desk: &[u8], table: &[u8], shelf: &[u8]) -> u8
     ensures { λ r. ⌜ r ≡ wayIn own true (now (desk .entry)) (now (table .entry)) (now (shelf .entry)) ⌝ }
 {
     if own & numbers::lengths::lengths_right(desk.len(), table.len(), shelf.len()) {
-        if desk::is_sound(desk, table, shelf) {
+        if soundness::is_sound(desk, table, shelf) {
             return 0;
         }
         return 2;
@@ -43,7 +43,7 @@ pub fn open(desk: &mut [u8], table: &mut [u8], shelf: &mut [u8], n: u32) -> Chan
     ensures { λ r. ⌜ Answers (changeSays r) desk table shelf (Call.opening n) ⌝ }
 {
     if numbers::lengths::lengths_right(desk.len(), table.len(), shelf.len()) {
-        return changes::open(desk, table, shelf, n);
+        return opening::open(desk, table, shelf, n);
     }
     ChangeAnswer::Refused(1)
 }
@@ -95,7 +95,7 @@ pub fn begin(desk: &mut [u8], table: &[u8], shelf: &[u8]) -> BeginAnswer
 {
     let shut = way_in(desk, table, shelf);
     if shut == 0 {
-        return scans::begin(desk);
+        return begins::begin(desk);
     }
     BeginAnswer::Refused(shut)
 }
@@ -112,7 +112,7 @@ pub fn next(
 {
     let shut = own_way_in(out.len() == 56, desk, table, shelf);
     if shut == 0 {
-        return scans::next(desk, table, shelf, ticket, budget, out);
+        return draws::next(desk, table, shelf, ticket, budget, out);
     }
     NextAnswer::Refused(shut)
 }
@@ -122,7 +122,7 @@ pub fn tally(desk: &[u8], table: &[u8], shelf: &[u8]) -> TallyAnswer
 {
     let shut = way_in(desk, table, shelf);
     if shut == 0 {
-        return scans::tally(table, shelf);
+        return readings::tally(table, shelf);
     }
     TallyAnswer::Refused(shut)
 }
@@ -132,17 +132,17 @@ pub fn owed(desk: &[u8], table: &[u8], shelf: &[u8], ticket: Ticket) -> OwedAnsw
 {
     let shut = way_in(desk, table, shelf);
     if shut == 0 {
-        return scans::owed(desk, table, shelf, ticket);
+        return readings::owed(desk, table, shelf, ticket);
     }
     OwedAnswer::Refused(shut)
 }
 
 // The 56 bytes that next with unbounded budget would hand out, as a part of table or shelf; an empty part in every other case.
 pub fn peek<'a>(desk: &[u8], table: &'a [u8], shelf: &'a [u8], ticket: Ticket) -> &'a [u8]
-    ensures { λ r. ⌜ Answers (Answer.shown (Shown.part (now r))) desk table shelf (Call.reading (Reading.peek (ticket .0))) × NoCopy r table shelf ⌝ }
+    ensures { λ r. ⌜ Answers (Answer.shown (Shown.part (now r))) desk table shelf (Call.reading (Reading.peek (ticket .0))) × NoCopy r desk table shelf (ticket .0) ⌝ }
 {
     if way_in(desk, table, shelf) == 0 {
-        return scans::peek::peek(desk, table, shelf, ticket);
+        return readings::peek::peek(desk, table, shelf, ticket);
     }
     &table[0..0]
 }

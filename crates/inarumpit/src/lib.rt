@@ -10,7 +10,7 @@ pub mod calls;
 pub extern "C" fn inarumpit_open(desk: &mut [u8], table: &mut [u8], shelf: &mut [u8], n: u32) -> u64
     ensures { λ r. ⌜ Returns r desk table shelf (Call.opening n) ⌝ }
 {
-    numbers::pack::change(calls::open(desk, table, shelf, n))
+    packing::change(calls::open(desk, table, shelf, n))
 }
 
 #[no_mangle]
@@ -23,7 +23,7 @@ pub extern "C" fn inarumpit_insert(
 ) -> u64
     ensures { λ r. ⌜ Returns r desk table shelf (Call.change (Change.insert number (now (body .entry)))) ⌝ }
 {
-    numbers::pack::change(calls::insert(desk, table, shelf, RecordNumber(number), body))
+    packing::change(calls::insert(desk, table, shelf, RecordNumber(number), body))
 }
 
 #[no_mangle]
@@ -36,7 +36,7 @@ pub extern "C" fn inarumpit_modify(
 ) -> u64
     ensures { λ r. ⌜ Returns r desk table shelf (Call.change (Change.modify number (now (body .entry)))) ⌝ }
 {
-    numbers::pack::change(calls::modify(desk, table, shelf, RecordNumber(number), body))
+    packing::change(calls::modify(desk, table, shelf, RecordNumber(number), body))
 }
 
 #[no_mangle]
@@ -48,14 +48,14 @@ pub extern "C" fn inarumpit_delete(
 ) -> u64
     ensures { λ r. ⌜ Returns r desk table shelf (Call.change (Change.delete number)) ⌝ }
 {
-    numbers::pack::change(calls::delete(desk, table, shelf, RecordNumber(number)))
+    packing::change(calls::delete(desk, table, shelf, RecordNumber(number)))
 }
 
 #[no_mangle]
 pub extern "C" fn inarumpit_begin(desk: &mut [u8], table: &[u8], shelf: &[u8]) -> u64
     ensures { λ r. ⌜ Returns r desk table shelf Call.begin ⌝ }
 {
-    numbers::pack::begin(calls::begin(desk, table, shelf))
+    packing::begin(calls::begin(desk, table, shelf))
 }
 
 #[no_mangle]
@@ -69,19 +69,19 @@ pub extern "C" fn inarumpit_next(
 ) -> u64
     ensures { λ r. ⌜ ReturnsOut r desk table shelf out (Call.next ticket budget (now (out .entry))) ⌝ }
 {
-    numbers::pack::next(calls::next(desk, table, shelf, Ticket(ticket), budget, out))
+    packing::next(calls::next(desk, table, shelf, Ticket(ticket), budget, out))
 }
 
 #[no_mangle]
 pub extern "C" fn inarumpit_tally(desk: &[u8], table: &[u8], shelf: &[u8]) -> u64
     ensures { λ r. ⌜ Returns r desk table shelf (Call.reading Reading.tally) ⌝ }
 {
-    numbers::pack::tally(calls::tally(desk, table, shelf))
+    packing::tally(calls::tally(desk, table, shelf))
 }
 
 #[no_mangle]
 pub extern "C" fn inarumpit_owed(desk: &[u8], table: &[u8], shelf: &[u8], ticket: u32) -> u64
     ensures { λ r. ⌜ Returns r desk table shelf (Call.reading (Reading.owed ticket)) ⌝ }
 {
-    numbers::pack::owed(calls::owed(desk, table, shelf, Ticket(ticket)))
+    packing::owed(calls::owed(desk, table, shelf, Ticket(ticket)))
 }

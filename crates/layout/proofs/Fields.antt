@@ -1,56 +1,14 @@
 -- Laws of `field` and `put`, over any width and offset.
 use mathlib.Core.Path.{_≡_, refl, sym, ap, _∙_}
-use mathlib.Core.List.{List, [], _∷_, _++_, append-assoc, append-nil}
-use mathlib.Core.Logic.{_⊎_, inl, inr}
-use Prim.Native.Nat.{ℕ, zero, suc, _+_, _*_, _-_, _≤_, _<_}
-use native.Mathlib.Nat.{add-suc, add-zero, suc-add, zero-add}
+use mathlib.Core.List.{List, _++_, append-assoc, append-nil}
+use Prim.Native.Nat.{ℕ, _+_, _-_, _≤_, _<_}
+use native.Mathlib.Nat.{zero-add}
 use native.Mathlib.Numerals.{add-one}
 use native.Mathlib.Omega.{arith}
-use lib.ListN.{length, take, drop, getD, set, length-append, length-drop}
-use lib.Seq.{ext-getD, getD-take, getD-drop, drop-append-add, paste, paste-zero, paste-suc, drop-cons, sets, sets-eq, take-append-le, drop-append-le, take-at, drop-at, drop-drop, length-take-le, take-append-seam, drop-length}
-use Rattle.rules.specs.Bytes.{le, field, u32At, u64At}
-use Rattle.rules.proofs.Bytes.{Bytes, glue, toLe-field, length-field, length-toLe}
-use Rattle.layout.specs.Puts.{put, put32, put64}
-
--- the elements at + k, at + (k + 1), .., n of them: what straight-line code reads
-abbrev pub span : List ℕ → ℕ → ℕ → ℕ → List ℕ
-span l at k zero = []
-span l at k (suc n) = getD l (at + k) 0 ∷ span l at (suc k) n
-
--- vs stored at at + k, at + (k + 1), ..: what straight-line code leaves
-abbrev pub stores : List ℕ → ℕ → ℕ → List ℕ → List ℕ
-stores l at k [] = l
-stores l at k (v ∷ vs) = stores (set l (at + k) v) at (suc k) vs
-
-span-take : (n : ℕ) (l : List ℕ) (at k : ℕ) → at + k + n ≤ length l → span l at k n ≡ take n (drop (at + k) l)
-span-take zero l at k h = refl
-span-take (suc n) l at k h =
-    let i : at + k < length l = omega (arith, add-suc (at + k) n) in
-    let j : at + suc k + n ≤ length l = omega (arith, add-suc (at + k) n, add-suc at k, suc-add (at + k) n) in
-    rw (drop-cons l (at + k) 0 i) (ap (λ (t : List ℕ). getD l (at + k) 0 ∷ t) (span-take n l at (suc k) j ∙ ap (λ (m : ℕ). take n (drop m l)) (add-suc at k)))
-
-pub field-span : (n : ℕ) (l : List ℕ) (at : ℕ) → at + n ≤ length l → field n at l ≡ span l at 0 n
-unfolding field
-field-span n l at h = let j : at + 0 + n ≤ length l = omega arith in sym (span-take n l at 0 j ∙ ap (λ (m : ℕ). take n (drop m l)) (add-zero at))
-
-stores-sets : (vs l : List ℕ) (at k : ℕ) → stores l at k vs ≡ sets l (at + k) vs
-stores-sets [] l at k = refl
-stores-sets (v ∷ vs) l at k = stores-sets vs (set l (at + k) v) at (suc k) ∙ ap (λ (m : ℕ). sets (set l (at + k) v) m vs) (add-suc at k)
-
-pub put-stores : (vs l : List ℕ) (at : ℕ) → at + length vs ≤ length l → stores l at 0 vs ≡ put l at vs
-unfolding put
-put-stores vs l at h = stores-sets vs l at 0 ∙ ap (λ (m : ℕ). sets l m vs) (add-zero at) ∙ sets-eq vs l at h ∙ append-assoc (take at l) vs (drop (at + length vs) l)
-
-pub u32-is : (l : List ℕ) (at : ℕ) → at + 4 ≤ length l → u32At l at ≡ getD l at 0 + 256 * getD l (at + 1) 0 + 65536 * getD l (at + 2) 0 + 16777216 * getD l (at + 3) 0
-unfolding u32At le
-u32-is l at h = rw (field-span 4 l at h, add-zero at) (omega arith)
-
-pub u64-is : (l : List ℕ) (at : ℕ) → at + 8 ≤ length l → u64At l at ≡ getD l at 0 + 256 * getD l (at + 1) 0 + 65536 * getD l (at + 2) 0 + 16777216 * getD l (at + 3) 0
-    + 0x1_0000_0000 * getD l (at + 4) 0 + 0x100_0000_0000 * getD l (at + 5) 0 + 0x1_0000_0000_0000 * getD l (at + 6) 0 + 0x100_0000_0000_0000 * getD l (at + 7) 0
-unfolding u64At le
-u64-is l at h = rw (field-span 8 l at h, add-zero at) (omega arith)
-
--- ---- laws of put and field, over any width
+use lib.ListN.{length, take, drop, getD, set, length-append, length-drop, length-replicate, replicate}
+use lib.Seq.{ext-getD, getD-take, getD-drop, drop-append-add, paste, paste-zero, paste-suc, take-append-le, drop-append-le, take-at, drop-at, drop-drop, length-take-le, take-append-seam, drop-length}
+use Rattle.rules.specs.Bytes.{field}
+use Rattle.layout.specs.Puts.{put}
 
 pub length-put : (l : List ℕ) (at : ℕ) (vs : List ℕ) → at + length vs ≤ length l → length (put l at vs) ≡ length l
 unfolding put
@@ -121,3 +79,11 @@ field-put-in l at vs n i h k =
 pub put-whole : (l vs : List ℕ) → length vs ≡ length l → put l 0 vs ≡ vs
 unfolding put
 put-whole l vs e = rw (zero-add (length vs), e, drop-length l) (append-nil vs)
+
+-- k bytes lent as n, and zeroed
+pub part-cleared : (l : List ℕ) (at k n : ℕ) → n ≡ k → at + k ≤ length l → {vs : List ℕ} → vs ≡ replicate (length (take n (drop at l))) 0
+    → take at l ++ (vs ++ drop n (drop at l)) ≡ put l at (replicate k 0)
+unfolding put
+part-cleared l at k n e h ev =
+    let m : length (take n (drop at l)) ≡ k = length-take-le n (drop at l) (rw (length-drop at l) (omega arith)) ∙ e in
+    rw (ev, m, drop-drop n at l, e, length-replicate {A = ℕ} k 0) refl

@@ -11,12 +11,6 @@ fn wide32(x: u8) -> u32
     x as u32
 }
 
-fn wide64(x: u8) -> u64
-    ensures { λ r. ⌜ (r ≡ x) × (r < 256) ⌝ }
-{
-    x as u64
-}
-
 pub fn get32(s: &[u8], at: usize) -> u32
     requires { ⌜ at + 4 ≤ length (now s) ⌝ }
     ensures { λ r. ⌜ r ≡ u32At (now (s .entry)) at ⌝ }
@@ -31,14 +25,7 @@ pub fn get64(s: &[u8], at: usize) -> u64
     requires { ⌜ at + 8 ≤ length (now s) ⌝ }
     ensures { λ r. ⌜ r ≡ u64At (now (s .entry)) at ⌝ }
 {
-    wide64(s[at])
-        + 256 * wide64(s[at + 1])
-        + 65536 * wide64(s[at + 2])
-        + 16777216 * wide64(s[at + 3])
-        + 0x1_0000_0000 * wide64(s[at + 4])
-        + 0x100_0000_0000 * wide64(s[at + 5])
-        + 0x1_0000_0000_0000 * wide64(s[at + 6])
-        + 0x100_0000_0000_0000 * wide64(s[at + 7])
+    get32(s, at) as u64 + 0x1_0000_0000 * (get32(s, at + 4) as u64)
 }
 
 pub fn set32(s: &mut [u8], at: usize, v: u32)
@@ -88,13 +75,21 @@ fn copy24(dst: &mut [u8], to: usize, src: &[u8], from: usize)
     set64(dst, to + 16, c);
 }
 
+// What a body and a version have in common: all but the last word.
+fn copy48(dst: &mut [u8], to: usize, src: &[u8], from: usize)
+    requires { ⌜ (to + 48 ≤ length (now dst)) × (from + 48 ≤ length (now src)) ⌝ }
+    ensures { λ r. ⌜ now (dst .exit) ≡ put (now (dst .entry)) to (field 48 from (now (src .entry))) ⌝ }
+{
+    copy24(dst, to, src, from);
+    copy24(dst, to + 24, src, from + 24);
+}
+
 // The 52 bytes of a body.
 pub fn copy_body(dst: &mut [u8], to: usize, src: &[u8], from: usize)
     requires { ⌜ (to + 52 ≤ length (now dst)) × (from + 52 ≤ length (now src)) ⌝ }
     ensures { λ r. ⌜ now (dst .exit) ≡ put (now (dst .entry)) to (field 52 from (now (src .entry))) ⌝ }
 {
-    copy24(dst, to, src, from);
-    copy24(dst, to + 24, src, from + 24);
+    copy48(dst, to, src, from);
     let g = get32(src, from + 48);
     set32(dst, to + 48, g);
 }
@@ -104,29 +99,9 @@ pub fn copy_version(dst: &mut [u8], to: usize, src: &[u8], from: usize)
     requires { ⌜ (to + 56 ≤ length (now dst)) × (from + 56 ≤ length (now src)) ⌝ }
     ensures { λ r. ⌜ now (dst .exit) ≡ put (now (dst .entry)) to (field 56 from (now (src .entry))) ⌝ }
 {
-    copy24(dst, to, src, from);
-    copy24(dst, to + 24, src, from + 24);
+    copy48(dst, to, src, from);
     let g = get64(src, from + 48);
     set64(dst, to + 48, g);
-}
-
-fn clear32(dst: &mut [u8], at: usize)
-    requires { ⌜ at + 32 ≤ length (now dst) ⌝ }
-    ensures { λ r. ⌜ now (dst .exit) ≡ put (now (dst .entry)) at (replicate 32 0) ⌝ }
-{
-    set64(dst, at, 0);
-    set64(dst, at + 8, 0);
-    set64(dst, at + 16, 0);
-    set64(dst, at + 24, 0);
-}
-
-// A freed slot or entry becomes 64 zero bytes.
-pub fn clear_slot(dst: &mut [u8], at: usize)
-    requires { ⌜ at + 64 ≤ length (now dst) ⌝ }
-    ensures { λ r. ⌜ now (dst .exit) ≡ put (now (dst .entry)) at (replicate 64 0) ⌝ }
-{
-    clear32(dst, at);
-    clear32(dst, at + 32);
 }
 
 // A whole buffer zeroed.
@@ -138,4 +113,12 @@ pub fn clear_all(dst: &mut [u8])
         dst[i] = 0;
         i += 1;
     }
+}
+
+// A freed slot or entry becomes 64 zero bytes.
+pub fn clear_slot(dst: &mut [u8], at: usize)
+    requires { ⌜ at + 64 ≤ length (now dst) ⌝ }
+    ensures { λ r. ⌜ now (dst .exit) ≡ put (now (dst .entry)) at (replicate 64 0) ⌝ }
+{
+    clear_all(&mut dst[at..at + 64]);
 }

@@ -1,4 +1,2 @@
 pub mod Walked
 pub mod Seek
-pub mod HandOut
-pub mod Moves

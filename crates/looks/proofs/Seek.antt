@@ -8,14 +8,13 @@ use native.Mathlib.Omega.{arith}
 use native.Mathlib.Decide.{decLt}
 use lib.ListN.{length}
 use borrow.Author.Tests.{lt-ltb, le-ltb}
-use Rattle.rules.specs.Calls.{first, slotIn}
+use Rattle.rules.specs.Calls.{first}
 use Rattle.rules.specs.Memory.{slotsOf}
-use Rattle.laws.specs.Search.{waiting}
 use Rattle.rules.proofs.First.{first-shift, first-same, first-least, first-split-found, first-split-none}
-use Rattle.laws.proofs.Slots.{count}
+use Rattle.joins.proofs.Slots.{count}
 use Rattle.looks.specs.declared.walk.Seen.{Seen}
 use Rattle.looks.specs.declared.walk.Walked.{Walked}
-use Rattle.looks.specs.Walked.{walked, stopOf, walkedOf, hitInBy, hitIn}
+use Rattle.looks.specs.Walked.{waitsIn, walked, stopOf, walkedOf, hitInBy, hitIn}
 use Rattle.looks.proofs.Walked.{hits, spends, ends}
 
 same-walked : {s : Seen} {n n′ l l′ : ℕ} → n ≡ n′ → l ≡ l′ → walked s n l ≡ walked s n′ l′
@@ -149,36 +148,36 @@ module _ (h ht hs : ℕ → Bool) (T R place b : ℕ) (table : (q : ℕ) → q <
 -- ---- the bytes of a table and a shelf
 
 module _ (stable p : ℕ) (t s : List ℕ) (place b : ℕ) where
-  in-table : (q : ℕ) → q < length t / 64 → hitIn stable p (slotsOf t) (slotsOf s) q ≡ waiting stable p (slotIn (slotsOf t) q)
+  in-table : (q : ℕ) → q < length t / 64 → hitIn stable p (slotsOf t) (slotsOf s) q ≡ waitsIn stable p (slotsOf t) q
   unfolding hitInBy
   in-table q g = rw (lt-ltb q (length (slotsOf t)) (omega (arith, count t))) refl
 
-  on-shelf : (k : ℕ) → hitIn stable p (slotsOf t) (slotsOf s) (length t / 64 + k) ≡ waiting 0 p (slotIn (slotsOf s) k)
+  on-shelf : (k : ℕ) → hitIn stable p (slotsOf t) (slotsOf s) (length t / 64 + k) ≡ waitsIn 0 p (slotsOf s) k
   unfolding hitInBy
   on-shelf k =
       let z : length t / 64 + k - length (slotsOf t) ≡ k = omega (arith, count t) in
-      rw (le-ltb (length t / 64 + k) (length (slotsOf t)) (omega (arith, count t))) (ap (λ (j : ℕ). waiting 0 p (slotIn (slotsOf s) j)) z)
+      rw (le-ltb (length t / 64 + k) (length (slotsOf t)) (omega (arith, count t))) (ap (waitsIn 0 p (slotsOf s)) z)
 
   module _ (fits : place ≤ length t / 64 + length s / 64) where
-    pub seek-shelf : {w : Walked} → length t / 64 ≤ place → w ≡ walkedOf (λ i. waiting 0 p (slotIn (slotsOf s) i)) (place - length t / 64) b (length s / 64) → w ≡ walkedOf (hitIn stable p (slotsOf t) (slotsOf s)) place b (length t / 64 + length s / 64)
-    seek-shelf g e = e ∙ sym (from-shelf (hitIn stable p (slotsOf t) (slotsOf s)) (λ i. waiting stable p (slotIn (slotsOf t) i)) (λ i. waiting 0 p (slotIn (slotsOf s) i)) (length t / 64) (length s / 64) place b in-table on-shelf fits g)
+    pub seek-shelf : {w : Walked} → length t / 64 ≤ place → w ≡ walkedOf (waitsIn 0 p (slotsOf s)) (place - length t / 64) b (length s / 64) → w ≡ walkedOf (hitIn stable p (slotsOf t) (slotsOf s)) place b (length t / 64 + length s / 64)
+    seek-shelf g e = e ∙ sym (from-shelf (hitIn stable p (slotsOf t) (slotsOf s)) (waitsIn stable p (slotsOf t)) (waitsIn 0 p (slotsOf s)) (length t / 64) (length s / 64) place b in-table on-shelf fits g)
 
-    module _ (within : place < length t / 64) {w : Walked} (e : w ≡ walkedOf (λ i. waiting stable p (slotIn (slotsOf t) i)) place b (length t / 64)) where
-      seen-as : {x : Seen} → w .seen ≡ x → walkedOf (λ i. waiting stable p (slotIn (slotsOf t) i)) place b (length t / 64) .seen ≡ x
+    module _ (within : place < length t / 64) {w : Walked} (e : w ≡ walkedOf (waitsIn stable p (slotsOf t)) place b (length t / 64)) where
+      seen-as : {x : Seen} → w .seen ≡ x → walkedOf (waitsIn stable p (slotsOf t)) place b (length t / 64) .seen ≡ x
       seen-as y = sym (ap (λ (v : Walked). v .seen) e) ∙ y
 
       pub seek-record : w .seen ≡ Seen.Record → w ≡ walkedOf (hitIn stable p (slotsOf t) (slotsOf s)) place b (length t / 64 + length s / 64)
-      seek-record y = e ∙ sym (table-record (hitIn stable p (slotsOf t) (slotsOf s)) (λ i. waiting stable p (slotIn (slotsOf t) i)) (λ i. waiting 0 p (slotIn (slotsOf s) i)) (length t / 64) (length s / 64) place b in-table on-shelf fits within (seen-as y))
+      seek-record y = e ∙ sym (table-record (hitIn stable p (slotsOf t) (slotsOf s)) (waitsIn stable p (slotsOf t)) (waitsIn 0 p (slotsOf s)) (length t / 64) (length s / 64) place b in-table on-shelf fits within (seen-as y))
 
       pub seek-spent : w .seen ≡ Seen.Spent → w ≡ walkedOf (hitIn stable p (slotsOf t) (slotsOf s)) place b (length t / 64 + length s / 64)
-      seek-spent y = e ∙ sym (table-spent (hitIn stable p (slotsOf t) (slotsOf s)) (λ i. waiting stable p (slotIn (slotsOf t) i)) (λ i. waiting 0 p (slotIn (slotsOf s) i)) (length t / 64) (length s / 64) place b in-table on-shelf fits within (seen-as y))
+      seek-spent y = e ∙ sym (table-spent (hitIn stable p (slotsOf t) (slotsOf s)) (waitsIn stable p (slotsOf t)) (waitsIn 0 p (slotsOf s)) (length t / 64) (length s / 64) place b in-table on-shelf fits within (seen-as y))
 
-      module _ {v : Walked} (e′ : v ≡ walkedOf (λ i. waiting 0 p (slotIn (slotsOf s) i)) 0 (w .left) (length s / 64)) where
+      module _ {v : Walked} (e′ : v ≡ walkedOf (waitsIn 0 p (slotsOf s)) 0 (w .left) (length s / 64)) where
         pub seek-looks : w .looks + v .looks ≤ length t / 64 + length s / 64
-        seek-looks = omega (arith, ap (λ (x : Walked). x .looks) e, ap (λ (x : Walked). x .looks) e′, looks-places (λ i. waiting stable p (slotIn (slotsOf t) i)) place b (length t / 64) (omega arith), looks-places (λ i. waiting 0 p (slotIn (slotsOf s) i)) 0 (w .left) (length s / 64) (omega arith))
+        seek-looks = omega (arith, ap (λ (x : Walked). x .looks) e, ap (λ (x : Walked). x .looks) e′, looks-places (waitsIn stable p (slotsOf t)) place b (length t / 64) (omega arith), looks-places (waitsIn 0 p (slotsOf s)) 0 (w .left) (length s / 64) (omega arith))
 
         pub seek-end : w .seen ≡ Seen.End → walked (v .seen) (w .looks + v .looks) (v .left) ≡ walkedOf (hitIn stable p (slotsOf t) (slotsOf s)) place b (length t / 64 + length s / 64)
         seek-end y =
             ap (λ (x : Walked). walked (x .seen) (w .looks + x .looks) (x .left)) e′
-            ∙ ap (onto (λ i. waiting 0 p (slotIn (slotsOf s) i)) (length s / 64)) e
-            ∙ sym (table-end (hitIn stable p (slotsOf t) (slotsOf s)) (λ i. waiting stable p (slotIn (slotsOf t) i)) (λ i. waiting 0 p (slotIn (slotsOf s) i)) (length t / 64) (length s / 64) place b in-table on-shelf fits within (seen-as y))
+            ∙ ap (onto (waitsIn 0 p (slotsOf s)) (length s / 64)) e
+            ∙ sym (table-end (hitIn stable p (slotsOf t) (slotsOf s)) (waitsIn stable p (slotsOf t)) (waitsIn 0 p (slotsOf s)) (length t / 64) (length s / 64) place b in-table on-shelf fits within (seen-as y))

@@ -1,4 +1,3 @@
-// The looks of a scan: where they end, and what they leave on the desk, in the table and on the shelf.
+// The looks of a scan: where they end.
 
-pub mod settle;
 pub mod walk;

@@ -1,11 +1,10 @@
 // The looks of a scan: one loop over slots.
 ghost use mathlib.Core.Path.{_≡_};
-ghost use Prim.Native.Nat.{_+_, _*_, _-_, _/_, _≤_, _<_, min};
+ghost use Prim.Native.Nat.{_+_, _-_, _/_, _≤_, _<_, min};
 ghost use lib.ListN.{length};
-ghost use Rattle.rules.specs.Calls.{slotIn};
 ghost use Rattle.rules.specs.Memory.{slotsOf};
-ghost use Rattle.laws.specs.Search.{waiting};
-ghost use Rattle.looks.specs.Walked.{walkedOf, hitIn};
+ghost use Rattle.looks.specs.Walked.{waitsIn, walkedOf, soughtOf};
+use masks::Masks;
 use rules::Position;
 use rules::SlotNumber;
 
@@ -32,10 +31,10 @@ fn least(a: usize, b: usize) -> usize
 // Looks from slot `from` on until a version that the scan at p waits for, the budget spent or the last slot.
 pub fn walk(slots: &[u8], from: SlotNumber, budget: u32, flip: u64, p: Position) -> Walked
     requires { ⌜ (from .0 ≤ length (now slots) / 64) × (length (now slots) / 64 < 4294967296) × (p .0 < 64) ⌝ }
-    ensures { λ r. ⌜ r ≡ walkedOf (λ i. waiting flip (p .0) (slotIn (slotsOf (now (slots .entry))) i)) (from .0) budget (length (now (slots .entry)) / 64) ⌝ }
+    ensures { λ r. ⌜ r ≡ walkedOf (waitsIn flip (p .0) (slotsOf (now (slots .entry)))) (from .0) budget (length (now (slots .entry)) / 64) ⌝ }
 {
-    let end = slots.len() / 64;
-    let start = from.0;
+    let end = slots::slot_count(slots);
+    let start = from.index();
     let stop = least(start + budget as usize, end);
     let mut i = start;
     let got = loop {
@@ -57,7 +56,7 @@ pub fn walk(slots: &[u8], from: SlotNumber, budget: u32, flip: u64, p: Position)
         let here = SlotNumber(i);
         i += 1;
         if slots::number_at(slots, here).is_none() {
-            i = slots::past_empty(slots, SlotNumber(i), SlotNumber(stop)).0;
+            i = search::past_empty(slots, SlotNumber(i), SlotNumber(stop)).index();
             continue;
         }
         if masks::has_bit(flip ^ slots::mask_at(slots, here), p) {
@@ -83,21 +82,18 @@ pub fn seek(
     budget: u32,
 ) -> Walked
     requires { ⌜ (place ≤ length (now table) / 64 + length (now shelf) / 64) × (length (now table) / 64 + length (now shelf) / 64 < 4294967296) × (p .0 < 64) ⌝ }
-    ensures { λ r. ⌜ r ≡ walkedOf (hitIn stable (p .0) (slotsOf (now (table .entry))) (slotsOf (now (shelf .entry)))) place budget (length (now (table .entry)) / 64 + length (now (shelf .entry)) / 64) ⌝ }
+    ensures { λ r. ⌜ r ≡ soughtOf stable (p .0) (now (table .entry)) (now (shelf .entry)) place budget ⌝ }
 {
-    let slots = table.len() / 64;
+    let slots = slots::slot_count(table);
     if place < slots {
         let there = walk(table, SlotNumber(place), budget, stable, p);
         let seen = there.seen;
         match seen {
-            Seen::Record => {
-                return there;
-            }
-            Seen::Spent => {
+            Seen::Record | Seen::Spent => {
                 return there;
             }
             Seen::End => {
-                let then = walk(shelf, SlotNumber(0), there.left, 0, p);
+                let then = walk(shelf, SlotNumber(0), there.left, Masks::NO_FLIP, p);
                 let then_seen = then.seen;
                 return Walked {
                     seen: then_seen,
@@ -107,5 +103,5 @@ pub fn seek(
             }
         }
     }
-    walk(shelf, SlotNumber(place - slots), budget, 0, p)
+    walk(shelf, SlotNumber(place - slots), budget, Masks::NO_FLIP, p)
 }

@@ -14,6 +14,9 @@ pub struct Masks {
 impl Masks {
     pub const ALL_ONES: u64 = 0xffff_ffff_ffff_ffff;
 
+    // What stands for the stable mask on the shelf: an entry waits for a scan where its own bit is 0.
+    pub const NO_FLIP: u64 = 0;
+
     // The masks of a fresh desk: both active masks all ones.
     pub fn fresh() -> Self
         ensures { λ r. ⌜ held r ≡ freshMasks ⌝ }

@@ -1,5 +1,4 @@
-// What depends on numbers alone: tests of what was read from lent bytes, of lengths, and the packing of answers.
+// What depends on numbers alone: tests of what was read from lent bytes, and of lengths.
 pub mod card;
 pub mod head;
 pub mod lengths;
-pub mod pack;

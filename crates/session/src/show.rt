@@ -75,13 +75,15 @@ fn card(desk: &[u8; 1088], p: u32)
     requires { ⌜ p < 64 ⌝ }
 {
     let c = desk::card_at(desk, Position(p));
-    if c.ticket.0 != 0 {
-        named(b"    position ", p);
-        named(b": ticket ", c.ticket.0);
-        named(b", place ", c.place);
-        named(b", handed ", c.handed);
-        words(b"\n");
+    let ticket = c.ticket;
+    if ticket.is_none() {
+        return;
     }
+    named(b"    position ", p);
+    named(b": ticket ", ticket.word());
+    named(b", place ", c.place);
+    named(b", handed ", c.handed);
+    words(b"\n");
 }
 
 fn cards(desk: &[u8; 1088]) {

@@ -60,7 +60,7 @@ fn begin(desk: &mut [u8], table: &[u8], shelf: &[u8]) {
     show::words(b"begin");
     match calls::begin(desk, table, shelf) {
         BeginAnswer::Begun(t) => {
-            show::named(b": 0, ticket ", t.0);
+            show::named(b": 0, ticket ", t.word());
             show::words(b"\n");
         }
         BeginAnswer::Refused(k) => refused(k),

@@ -21,6 +21,10 @@ goesOn Kept.NoRoom = false
 abbrev pub mIn : Masks → List ℕ → ℕ → ℕ
 mIn m t i = mOf m (u64At t (i * 64 + 56))
 
+-- the rules' `shelfEntry`, of the bytes of a shelf
+abbrev pub entryTaken : List ℕ → ℕ
+entryTaken s = emptySlot (slotsOf s)
+
 -- the version of slot i, with its m, in entry e
 abbrev pub shelvedIn : Masks → List ℕ → List ℕ → ℕ → ℕ → List ℕ
 shelvedIn m t s i e = put64 (put s (e * 64) (field 56 (i * 64) t)) (e * 64 + 56) (mIn m t i)
@@ -29,7 +33,7 @@ shelvedIn m t s i e = put64 (put s (e * 64) (field 56 (i * 64) t)) (e * 64 + 56)
 unfoldable pub keepsBy : Bool → Bool → Masks → List ℕ → List ℕ → ℕ → Kept × List ℕ
 keepsBy true b m t s i = (Kept.Unawaited, s)
 keepsBy false false m t s i = (Kept.NoRoom, s)
-keepsBy false true m t s i = (Kept.Shelved, shelvedIn m t s i (emptySlot (slotsOf s)))
+keepsBy false true m t s i = (Kept.Shelved, shelvedIn m t s i (entryTaken s))
 
 abbrev pub keeps : Masks → List ℕ → List ℕ → ℕ → Kept × List ℕ
-keeps m t s i = keepsBy (allOnes 64 (mIn m t i)) (ltb (emptySlot (slotsOf s)) (length s / 64)) m t s i
+keeps m t s i = keepsBy (allOnes 64 (mIn m t i)) (ltb (entryTaken s) (length s / 64)) m t s i

@@ -39,7 +39,7 @@ pub fn keep(masks: Masks, table: &[u8], shelf: &mut [u8], i: SlotNumber) -> Kept
     if m == Masks::ALL_ONES {
         return Kept::Unawaited;
     }
-    let e = slots::empty(shelf);
+    let e = search::empty(shelf);
     if e.below(slots::slot_count(shelf)) {
         slots::write::shelve(table, i, shelf, e, m);
         return Kept::Shelved;

@@ -10,9 +10,4 @@ returns c = rw (c .bit .ensures) refl
 
 pub has-bit-spec : {M : Type 1} → statement M
 has-bit-spec =
-    tie.close
-    (tie.spec
-    (λ c. search needs)
-    (λ c. search needs)
-    (λ c. search needs)
-    returns)
+    tie.close (tie.spec (λ c. search needs) (λ c. search needs) (λ c. search needs) returns)

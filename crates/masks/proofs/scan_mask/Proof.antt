@@ -1,4 +1,3 @@
-use mathlib.Core.Path.{_∙_}
 use native.Mathlib.Nat.{one-mul, mod-eq-of-lt}
 use lib.Pow.{pow-lt}
 use Prim.Native.Nat.{_^_}
@@ -15,9 +14,4 @@ returns c =
 
 pub scan-mask-spec : {M : Type 1} → statement M
 scan-mask-spec =
-    tie.close
-    (tie.spec
-    (λ c. search needs)
-    (λ c. search needs)
-    (λ c. search needs)
-    returns)
+    tie.close (tie.spec (λ c. search needs) (λ c. search needs) (λ c. search needs) returns)

@@ -11,9 +11,4 @@ returns c =
 
 pub mask-at-spec : {M : Type 1} → statement M
 mask-at-spec =
-    tie.close
-    (tie.spec
-    (λ c κs. search needs)
-    (λ c. search needs)
-    (λ c κs. search needs)
-    returns)
+    tie.close (tie.spec (λ c κs. search needs) (λ c. search needs) (λ c κs. search needs) returns)

@@ -1,52 +1,40 @@
-use mathlib.Core.Path.{_≡_, refl, sym, ap, _∙_}
+use mathlib.Core.Path.{refl}
 use native.Mathlib.Omega.{arith}
 use Rattle.rules.specs.Answers.{beginSays}
 use Rattle.rules.specs.Refusals.{Call, ownRight, looksAtDesk, refusedAs, outOf}
-use Rattle.desk.proofs.Says.{n-most}
-use Rattle.inarumpit.proofs.Replies.{by-refusal, by-lengths, by-sound, by-rule}
+use Rattle.soundness.proofs.Says.{n-most}
+use Rattle.inarumpit.proofs.Replies.{LetIn, let-in, by-refusal, by-lengths, by-sound, by-rule}
 use borrow.Author.Needs.{needs}
 use Rattle.inarumpit.proofs.calls.begin.Statement.{statement}
 use Rattle.inarumpit.proofs.calls.begin.Tie as tie
 
+-- the way in is open
+module _ (c : tie.Then1) where
+  abbrev start : tie.Start
+  start = c .before .before .before .before .before .before
+
+  admitted : LetIn (start .args .desk .now) (start .args .table .now) (start .args .shelf .now) Call.begin
+  unfolding ownRight looksAtDesk
+  admitted = let-in _ (c .before .way-in .ensures) (c .if1 .taken) (λ j. omega (arith, c .before .before .before .before .before .slice-known .given j)) (λ j. omega (arith, c .before .before .before .before .shared-slice-known .given j)) (λ j. omega (arith, c .before .before .before .shared-slice-known2 .given j))
+
 begin-requires : tie.Need-begin-requires
-unfolding ownRight looksAtDesk
+unfolding looksAtDesk
 begin-requires c κs =
-    let start = c .before .before .before .before .before .before .before in
-    let way-in = c .before .before .way-in in
-    let if1 = c .before .if1 in
-    let z = by-lengths (start .args .desk .now) (start .args .table .now) (start .args .shelf .now) Call.begin (way-in .ensures) (if1 .taken) in
-    let ok = by-sound (start .args .desk .now) (start .args .table .now) (start .args .shelf .now) Call.begin (way-in .ensures) (if1 .taken) refl in
-    (z .desk, n-most (start .args .desk .now) (start .args .table .now) (start .args .shelf .now) ok)
+    let at = c .before in
+    let args = start at .args in
+    (by-lengths (admitted at) .desk, n-most (args .desk .now) (args .table .now) (args .shelf .now) (by-sound (admitted at) refl))
 
 returns : tie.Need-returns
-unfolding beginSays ownRight looksAtDesk
 returns c =
-    let start = c .before .before .before .before .before .before .before .before .before .before in
-    let way-in = c .before .before .before .before .before .way-in in
-    let if1 = c .before .before .before .before .if1 in
-    let slice-known = c .before .before .before .before .before .before .before .before .before .slice-known in
-    let shared-slice-known = c .before .before .before .before .before .before .before .before .shared-slice-known in
-    let shared-slice-known2 = c .before .before .before .before .before .before .before .shared-slice-known2 in
-    let desk = c .before .desk in
-    let slice-known2 = c .slice-known2 in
-    let begin = c .before .before .begin in
-    by-rule (start .args .desk .now) (start .args .table .now) (start .args .shelf .now) Call.begin (way-in .ensures) (if1 .taken) (λ j. omega (arith, slice-known .given j)) (λ j. omega (arith, shared-slice-known .given j)) (λ j. omega (arith, shared-slice-known2 .given j)) _ _ _ (desk .given) refl refl (λ j. omega (arith, slice-known2 .given j)) (λ j. omega (arith, shared-slice-known .given j)) (λ j. omega (arith, shared-slice-known2 .given j)) (begin .ensures (start .args .table .now) (start .args .shelf .now))
+    let at = c .before .before .before .before in
+    let here = admitted at in
+    let args = start at .args in
+    by-rule here (c .before .desk .given) refl refl (λ j. omega (arith, c .slice-known2 .given j)) (here .tableBytes) (here .shelfBytes) (c .before .before .begin .ensures (args .table .now) (args .shelf .now))
 
 returns-2 : tie.Need-returns-2
 unfolding beginSays ownRight looksAtDesk refusedAs outOf
-returns-2 c =
-    let start = c .before .before .before .before .before .before in
-    let way-in = c .before .way-in in
-    let if1 = c .if1 in
-    by-refusal (start .args .desk .now) (start .args .table .now) (start .args .shelf .now) Call.begin (way-in .ensures) (if1 .left)
+returns-2 c = by-refusal _ (c .before .way-in .ensures) (c .if1 .left)
 
 pub begin-spec : {M : Type 1} → statement M
 begin-spec =
-    tie.close
-    (tie.spec
-    (λ c κs. search needs)
-    begin-requires
-    (λ c. search needs)
-    returns
-    (λ c. search needs)
-    returns-2)
+    tie.close (tie.spec (λ c κs. search needs) begin-requires (λ c. search needs) returns (λ c. search needs) returns-2)

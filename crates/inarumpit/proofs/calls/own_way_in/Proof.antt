@@ -8,43 +8,27 @@ use Rattle.inarumpit.proofs.calls.own_way_in.Tie as tie
 
 is-sound-requires : tie.Need-is-sound-requires
 is-sound-requires c κs =
-    let start = c .before .before .before .before .before in
-    let lengths-right = c .before .lengths-right in
-    let if1 = c .if1 in
-    let z = way-lengths (start .args .own) true (start .args .desk .now) (start .args .table .now) (start .args .shelf .now) (lengths-right .ensures) (if1 .taken) in
+    let args = c .before .before .before .before .before .args in
+    let z = way-lengths (args .own) true (args .desk .now) (args .table .now) (args .shelf .now) (c .before .lengths-right .ensures) (c .if1 .taken) in
     (z .desk, omega arith)
 
 returns : tie.Need-returns
 returns c =
-    let start = c .before .before .before .before .before .before .before in
-    let lengths-right = c .before .before .before .lengths-right in
-    let if1 = c .before .before .if1 in
-    let is-sound = c .before .is-sound in
-    let if2 = c .if2 in
-    way-open (start .args .own) true (start .args .desk .now) (start .args .table .now) (start .args .shelf .now) (lengths-right .ensures) (if1 .taken) refl (is-sound .ensures) (if2 .taken)
+    let right = c .before .before in
+    let args = right .before .before .before .before .before .args in
+    way-open (args .own) true (args .desk .now) (args .table .now) (args .shelf .now) (right .before .lengths-right .ensures) (right .if1 .taken) refl (c .before .is-sound .ensures) (c .if2 .taken)
 
 returns-2 : tie.Need-returns-2
 returns-2 c =
-    let start = c .before .before .before .before .before .before .before in
-    let lengths-right = c .before .before .before .lengths-right in
-    let if1 = c .before .before .if1 in
-    let is-sound = c .before .is-sound in
-    let if2 = c .if2 in
-    way-unsound (start .args .own) true (start .args .desk .now) (start .args .table .now) (start .args .shelf .now) (lengths-right .ensures) (if1 .taken) refl (is-sound .ensures) (if2 .left)
+    let right = c .before .before in
+    let args = right .before .before .before .before .before .args in
+    way-unsound (args .own) true (args .desk .now) (args .table .now) (args .shelf .now) (right .before .lengths-right .ensures) (right .if1 .taken) refl (c .before .is-sound .ensures) (c .if2 .left)
 
 returns-3 : tie.Need-returns-3
 returns-3 c =
-    let start = c .before .before .before .before .before in
-    let lengths-right = c .before .lengths-right in
-    let if1 = c .if1 in
-    way-wrong (start .args .own) true (start .args .desk .now) (start .args .table .now) (start .args .shelf .now) (lengths-right .ensures) (if1 .left)
+    let args = c .before .before .before .before .before .args in
+    way-wrong (args .own) true (args .desk .now) (args .table .now) (args .shelf .now) (c .before .lengths-right .ensures) (c .if1 .left)
 
 pub own-way-in-spec : {M : Type 1} → statement M
 own-way-in-spec =
-    tie.close
-    (tie.spec
-    (λ c κs. search needs)
-    is-sound-requires
-    returns
-    returns-2
-    returns-3)
+    tie.close (tie.spec (λ c κs. search needs) is-sound-requires returns returns-2 returns-3)

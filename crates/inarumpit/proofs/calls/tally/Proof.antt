@@ -1,46 +1,32 @@
-use mathlib.Core.Path.{_≡_, refl, sym, ap, _∙_}
 use native.Mathlib.Omega.{arith}
 use Rattle.rules.specs.Answers.{tallySays}
 use Rattle.rules.specs.Refusals.{Call, Reading, ownRight, looksAtDesk, refusedAs, outOf}
-use Rattle.inarumpit.proofs.Replies.{by-refusal, by-lengths, by-rule}
+use Rattle.inarumpit.proofs.Replies.{LetIn, let-in, by-refusal, by-lengths, by-reading}
 use borrow.Author.Needs.{needs}
 use Rattle.inarumpit.proofs.calls.tally.Statement.{statement}
 use Rattle.inarumpit.proofs.calls.tally.Tie as tie
 
+-- the way in is open
+module _ (c : tie.Then1) where
+  abbrev start : tie.Start
+  start = c .before .before .before .before .before
+
+  admitted : LetIn (start .args .desk .now) (start .args .table .now) (start .args .shelf .now) (Call.reading Reading.tally)
+  unfolding ownRight looksAtDesk
+  admitted = let-in _ (c .before .way-in .ensures) (c .if1 .taken) (λ j. omega (arith, c .before .before .before .before .shared-slice-known .given j)) (λ j. omega (arith, c .before .before .before .shared-slice-known2 .given j)) (λ j. omega (arith, c .before .before .shared-slice-known3 .given j))
+
 tally-requires : tie.Need-tally-requires
-unfolding ownRight looksAtDesk
 tally-requires c κs =
-    let start = c .before .before .before .before .before in
-    let way-in = c .before .way-in in
-    let if1 = c .if1 in
-    let z = by-lengths (start .args .desk .now) (start .args .table .now) (start .args .shelf .now) (Call.reading Reading.tally) (way-in .ensures) (if1 .taken) in
+    let z = by-lengths (admitted c) in
     (omega arith, omega arith)
 
 returns : tie.Need-returns
-unfolding tallySays ownRight looksAtDesk
-returns c =
-    let start = c .before .before .before .before .before .before in
-    let way-in = c .before .before .way-in in
-    let if1 = c .before .if1 in
-    let shared-slice-known = c .before .before .before .before .before .shared-slice-known in
-    let shared-slice-known2 = c .before .before .before .before .shared-slice-known2 in
-    let shared-slice-known3 = c .before .before .before .shared-slice-known3 in
-    let tally = c .tally in
-    by-rule (start .args .desk .now) (start .args .table .now) (start .args .shelf .now) (Call.reading Reading.tally) (way-in .ensures) (if1 .taken) (λ j. omega (arith, shared-slice-known .given j)) (λ j. omega (arith, shared-slice-known2 .given j)) (λ j. omega (arith, shared-slice-known3 .given j)) _ _ _ refl refl refl (λ j. omega (arith, shared-slice-known .given j)) (λ j. omega (arith, shared-slice-known2 .given j)) (λ j. omega (arith, shared-slice-known3 .given j)) (tally .ensures (start .args .desk .now))
+returns c = by-reading (admitted (c .before)) (c .tally .ensures (start (c .before) .args .desk .now))
 
 returns-2 : tie.Need-returns-2
 unfolding tallySays ownRight looksAtDesk refusedAs outOf
-returns-2 c =
-    let start = c .before .before .before .before .before in
-    let way-in = c .before .way-in in
-    let if1 = c .if1 in
-    by-refusal (start .args .desk .now) (start .args .table .now) (start .args .shelf .now) (Call.reading Reading.tally) (way-in .ensures) (if1 .left)
+returns-2 c = by-refusal _ (c .before .way-in .ensures) (c .if1 .left)
 
 pub tally-spec : {M : Type 1} → statement M
 tally-spec =
-    tie.close
-    (tie.spec
-    (λ c κs. search needs)
-    tally-requires
-    returns
-    returns-2)
+    tie.close (tie.spec (λ c κs. search needs) tally-requires returns returns-2)

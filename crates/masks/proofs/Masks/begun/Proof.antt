@@ -12,7 +12,4 @@ returns c =
 
 pub begun-spec : {M : Type 1} → statement M
 begun-spec =
-    tie.close
-    (tie.spec
-    (λ c κs. search needs)
-    returns)
+    tie.close (tie.spec (λ c κs. search needs) returns)

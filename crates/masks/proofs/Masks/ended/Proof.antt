@@ -12,7 +12,4 @@ returns c =
 
 pub ended-spec : {M : Type 1} → statement M
 ended-spec =
-    tie.close
-    (tie.spec
-    (λ c κs. search needs)
-    returns)
+    tie.close (tie.spec (λ c κs. search needs) returns)

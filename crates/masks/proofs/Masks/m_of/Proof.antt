@@ -1,6 +1,5 @@
 use mathlib.Core.Path.{refl}
 use Rattle.rules.specs.Masks.{mOf, REMSET-MASK-INS}
-use borrow.Author.Needs.{needs}
 use Rattle.masks.proofs.Masks.m_of.Statement.{statement}
 use Rattle.masks.proofs.Masks.m_of.Tie as tie
 
@@ -11,6 +10,4 @@ returns c =
 
 pub m-of-spec : {M : Type 1} → statement M
 m-of-spec =
-    tie.close
-    (tie.spec
-    returns)
+    tie.close (tie.spec returns)

@@ -1,6 +1,5 @@
 use mathlib.Core.Path.{refl}
 use Rattle.rules.specs.Masks.{newStatus, STATUS-MASK-UPD, NOT}
-use borrow.Author.Needs.{needs}
 use Rattle.masks.proofs.Masks.new_status.Statement.{statement}
 use Rattle.masks.proofs.Masks.new_status.Tie as tie
 
@@ -11,6 +10,4 @@ returns c =
 
 pub new-status-spec : {M : Type 1} → statement M
 new-status-spec =
-    tie.close
-    (tie.spec
-    returns)
+    tie.close (tie.spec returns)

@@ -12,7 +12,4 @@ returns c =
 
 pub walk-ended-spec : {M : Type 1} → statement M
 walk-ended-spec =
-    tie.close
-    (tie.spec
-    (λ c κs. search needs)
-    returns)
+    tie.close (tie.spec (λ c κs. search needs) returns)

@@ -15,7 +15,4 @@ returns-2 c =
 
 pub side-sound-spec : {M : Type 1} → statement M
 side-sound-spec =
-    tie.close
-    (tie.spec
-    returns
-    returns-2)
+    tie.close (tie.spec returns returns-2)

@@ -17,8 +17,4 @@ returns-2 c =
 
 pub bits-from-spec : {M : Type 1} → statement M
 bits-from-spec =
-    tie.close
-    (tie.spec
-    (λ c. search needs)
-    returns
-    returns-2)
+    tie.close (tie.spec (λ c. search needs) returns returns-2)

@@ -1,4 +1,4 @@
-use mathlib.Core.Path.{_≡_, refl, sym, ap, _∙_}
+use mathlib.Core.Path.{refl}
 use Rattle.rules.specs.Refusals.{lengthsRight}
 use borrow.Author.Needs.{needs}
 use Rattle.numbers.proofs.lengths.lengths_right.Statement.{statement}
@@ -13,8 +13,4 @@ returns c =
 
 pub lengths-right-spec : {M : Type 1} → statement M
 lengths-right-spec =
-    tie.close
-    (tie.spec
-    (λ c κs. search needs)
-    (λ c κs. search needs)
-    returns)
+    tie.close (tie.spec (λ c κs. search needs) (λ c κs. search needs) returns)

@@ -12,13 +12,5 @@ abbrev μ-loop : tie.MeasureT-loop
 
 pub in-use-spec : {M : Type 1} → statement M
 in-use-spec =
-    tie.close
-    (tie.spec
-    Inv-loop
-    μ-loop
-    (λ c. tt)
-    (λ c κs. search needs)
-    (λ c. search needs)
-    (λ c. search needs)
-    (λ c. tt)
-    (λ c. tt))
+    tie.close (tie.spec Inv-loop μ-loop (λ c. tt) (λ c κs. search needs) (λ c. search needs) (λ c. search needs)
+    (λ c. tt) (λ c. tt))

@@ -1,4 +1,0 @@
-pub mod Sought
-pub mod Ways
-pub mod Nexts
-pub mod Peeks

@@ -1,0 +1,2 @@
+pub mod HandOut
+pub mod Moves

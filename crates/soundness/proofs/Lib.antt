@@ -1,0 +1,11 @@
+pub mod Every
+pub mod Zeros
+pub mod WordsRead
+pub mod MaskBits
+pub mod OneCard
+pub mod AllCards
+pub mod CardCases
+pub mod DeskCases
+pub mod HeadRules
+pub mod Sound
+pub mod Says
