@@ -183,15 +183,6 @@ static uint64_t oweds(const struct side *side, uint32_t times)
     return wrong;
 }
 
-/* Past its table walk a scan is owed what waits for it on the shelf. */
-static uint64_t oweds_shelf(const struct side *side, uint32_t times)
-{
-    uint64_t wrong = 0;
-    for (uint32_t i = 0; i < times; i++)
-        wrong += side->owed(STORE, 1) != 256 * VERSIONS;
-    return wrong;
-}
-
 enum of { NONE, FIRST, MIDDLE, LAST, ALL };
 
 static const struct {
@@ -216,7 +207,6 @@ static const struct {
     { "next, an empty store to its end", walks, 1, ALL, ALL, NONE, { 1, 64 }, 2 },
     { "tally, a full table", tallies, 1, ALL, ALL, ALL, { 0, 64 }, 2 },
     { "owed, a full table", oweds, 1, ALL, ALL, ALL, { 1, 64 }, 2 },
-    { "owed, past its table walk", oweds_shelf, 1, NONE, ALL, ALL, { 1, 64 }, 2 },
     { "modify, first slot, last entry", modifies, 1, FIRST, LAST, ALL, { 1, 64 }, 2 },
 };
 enum { CASES = sizeof cases / sizeof cases[0] };
@@ -236,7 +226,7 @@ static void prepare(int c)
     entry = entry_at(cases[c].entry == LAST ? r - 1 : 0);
     for (uint32_t k = 0; cases[c].entry == LAST && k + 1 < r; k++)
         put_record(entry_at(k), k + 1, ~UINT64_C(1));
-    if (cases[c].calls != versions && cases[c].calls != oweds_shelf)
+    if (cases[c].calls != versions)
         return;
     for (uint32_t k = 0; k < VERSIONS; k++)
         put_record(entry_at(k), k + 1, ~UINT64_C(1));

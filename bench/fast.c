@@ -468,10 +468,7 @@ uint64_t CALL(owed)(SHOWN, uint32_t ticket)
         return 2;
     if (RARE(ticket == 0 || found == 0))
         return 10;
-    const uint32_t position = position_of(desk, ticket, found);
-    const size_t t = table_len / SLOT_BYTES;
-    uint64_t count = in_use_with(shelf, shelf_len / SLOT_BYTES, position, 0);
-    if (get32(desk + CARDS_AT + CARD_BYTES * position + 4) < t)
-        count += in_use_with(table, t, position, h.stable >> position);
-    return 256 * count;
+    uint32_t position = position_of(desk, ticket, found);
+    return 256 * (in_use_with(table, table_len / SLOT_BYTES, position, h.stable >> position)
+                  + in_use_with(shelf, shelf_len / SLOT_BYTES, position, 0));
 }

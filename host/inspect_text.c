@@ -87,8 +87,8 @@ static void show_scans(const struct view *v)
         printf("\n");
     }
     if (v->scans > 0)
-        printf("  Owed, as the library counts it: what a scan has still to hand out; on shelf: how many of these wait there.\n"
-               "  Where only calls have changed the store, handed and owed together are what the scan began with.\n");
+        printf("  Owed is the library's count. In a shelf walk it has every record of the table in it;\n"
+               "  only those on the shelf are still handed out.\n");
 }
 
 /* The bytes that belong to the host, as far as they are text. */

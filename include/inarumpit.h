@@ -230,9 +230,9 @@ uint64_t inarumpit_tally(const uint8_t *desk, size_t desk_len,
                          const uint8_t *table, size_t table_len,
                          const uint8_t *shelf, size_t shelf_len);
 
-/* Counts the records that a scan has still to hand out: as many answers 0 are to come from its next before 101. The count
-   falls by one with each of them and stays whatever else is called; with the records handed out so far it makes what the
-   scan began with. Reads only: table and shelf, and once the scan has made T looks, the shelf alone.
+/* Counts the records that a scan has still to hand out, as long as it walks the table, that is, in its first T looks. In
+   its shelf walk the count is too high: it is then the versions that the scan has still to hand out from the shelf and, on
+   top of them, every record in the table, although the scan hands out none of those any more. Reads only.
 
    0   done; the value is the count (inarumpit_owed_of)
    1   a length

@@ -1,8 +1,7 @@
-/* agree [rounds N | seconds N | clean N | owed N] [seed N]: makes the same calls on the library and on the second program,
-   and compares every answer and every byte. First the sequences that are always the same and a few rounds of sequences drawn
-   by the seed; then further rounds, N in all or as many as begin within N seconds. With clean or owed: N rounds on stores
-   that only calls have written, and nothing else; with owed, as otherwise, it is asked after every call what the scans are
-   owed, with clean it is not. The last line says how many calls and sequences were compared. */
+/* agree [rounds N | seconds N | clean N] [seed N]: makes the same calls on the library and on the second program, and
+   compares every answer and every byte. First the sequences that are always the same and a few rounds of sequences drawn
+   by the seed; then further rounds, N in all or as many as begin within N seconds. With clean: N rounds on stores that only
+   calls have written, and nothing else. The last line says how many calls and sequences were compared. */
 #include <inttypes.h>
 #include <stdio.h>
 #include <stdlib.h>
@@ -11,25 +10,23 @@
 
 #include "progress.h"
 #include "readings.h"
-#include "rest.h"
 #include "sequences.h"
 
 enum { FIRST_ROUNDS = 8 };
 
-static uint64_t rounds = FIRST_ROUNDS, seconds, clean, owed, seed = 1;
+static uint64_t rounds = FIRST_ROUNDS, seconds, clean, seed = 1;
 
 /* The words of the command: the least number after each, and where it goes. */
 static const struct word {
     const char *name;
     uint64_t least, *value;
-} known[] = { { "rounds", FIRST_ROUNDS, &rounds }, { "seconds", 1, &seconds }, { "clean", 1, &clean },
-            { "owed", 1, &owed }, { "seed", 0, &seed } };
+} known[] = { { "rounds", FIRST_ROUNDS, &rounds }, { "seconds", 1, &seconds }, { "clean", 1, &clean }, { "seed", 0, &seed } };
 
 static void one_round(uint64_t number)
 {
     struct chance chance = { seed * UINT64_C(1000003) + number };
     play_history(&chance);
-    if (clean + owed > 0)
+    if (clean > 0)
         return;
     play_foreign(&chance);
     play_broken_desks(&chance);
@@ -62,9 +59,8 @@ static void play_all(void)
 
 static void play_clean(void)
 {
-    rest_asked = owed > 0;
-    for (uint64_t k = 0; k < clean + owed; k++) {
-        progress_part("clean rounds", k, clean + owed);
+    for (uint64_t k = 0; k < clean; k++) {
+        progress_part("clean rounds", k, clean);
         one_round(k);
     }
 }
@@ -93,7 +89,7 @@ static bool read_words(int count, char **words)
         const struct word *word = find(words[i]);
         const char *number = i + 1 < count ? words[i + 1] : "";
         if (!word) {
-            fprintf(stderr, "usage: agree [rounds N | seconds N | clean N | owed N] [seed N]\n");
+            fprintf(stderr, "usage: agree [rounds N | seconds N | clean N] [seed N]\n");
             return false;
         }
         if (!read_number(number, word->least, word->value)) {
@@ -109,7 +105,7 @@ int main(int count, char **words)
 {
     if (!read_words(count, words))
         return 2;
-    if (clean + owed > 0)
+    if (clean > 0)
         play_clean();
     else
         play_all();

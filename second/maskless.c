@@ -202,6 +202,7 @@ static const char *next_told(const struct call *c, uint64_t answer, uint64_t val
 
 static const char *accepted(const struct call *c, uint64_t answer, uint64_t value, const uint8_t *out)
 {
+    const struct scan *by;
     switch (c->which) {
     case INSERT:
         enters(c->number, c->bytes);
@@ -223,26 +224,12 @@ static const char *accepted(const struct call *c, uint64_t answer, uint64_t valu
     case TALLY:
         return value != in_table() + 32768 * (uint64_t)left() ? "tally counts otherwise" : NULL;
     case OWED:
-        return value != awaited_by(running(c->number)) ? "owed counts otherwise" : NULL;
+        /* In the shelf walk document 01's formula counts each record of the table besides. */
+        by = running(c->number);
+        return value != awaited_by(by) + (by->looks >= slots ? in_table() : 0) ? "owed counts otherwise" : NULL;
     default:
         return NULL;
     }
-}
-
-/* ---- who awaits how many */
-
-uint32_t maskless_running(void)
-{
-    return opened ? scans_running() : 0;
-}
-
-uint32_t maskless_awaits(uint32_t one, uint32_t *ticket)
-{
-    const struct scan *by = scan;
-    while (by->ticket == 0 || one-- > 0)
-        by++;
-    *ticket = by->ticket;
-    return awaited_by(by);
 }
 
 /* ---- demand 3 */

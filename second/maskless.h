@@ -12,8 +12,4 @@ void maskless_start(uint32_t slots, uint32_t entries);
 const char *maskless_told(const struct call *call, const size_t *len, uint64_t returned, const uint8_t *out,
                           const uint8_t *shelf);
 
-/* How many scans run, and of one of them, from 0 on, its ticket and how many versions it awaits. */
-uint32_t maskless_running(void);
-uint32_t maskless_awaits(uint32_t one, uint32_t *ticket);
-
 #endif

@@ -14,7 +14,6 @@
 #include "pages.h"
 #include "progress.h"
 #include "readings.h"
-#include "rest.h"
 #include "shrink.h"
 #include "store.h"
 
@@ -187,20 +186,6 @@ static int read_caught(const struct call *c, size_t turn, uint64_t returned, con
     return number;
 }
 
-/* Asks the library what each running scan is owed, on its buffers as they are; 0, or the signal that ended it. */
-static int rest_caught(size_t turn, const char **differs)
-{
-    const struct pages *b = library.buffer;
-    int number = sigsetjmp(before_call, 0);
-    if (number == 0) {
-        in_call = 1;
-        *differs = rest_differs(b[DESK].at, b[DESK].len, b[TABLE].at, b[TABLE].len, b[SHELF].at, b[SHELF].len,
-                                (uint32_t)turn);
-    }
-    in_call = 0;
-    return number;
-}
-
 /* ---- both sides */
 
 static char why[256];
@@ -261,8 +246,6 @@ static const char *run(const struct call *c, size_t turn, bool all_before, uint6
         len[b] = len_of(&library, c, (enum buffer)b);
     if (!differ && shape.clean)
         differ = maskless_told(c, len, ours, library.buffer[OUT].at, library.buffer[SHELF].at);
-    if (!differ && shape.clean && rest_asked && (number = rest_caught(turn, &differ)) != 0)
-        return faulted("the library", number);
     if (differ || c->which == POKE)
         return differ;
     number = read_caught(c, turn, ours, &differ);

@@ -1,6 +1,5 @@
 /* Sequences of calls played on the library and on the second program side by side. After every call the numbers that came
-   back and every byte of every buffer and round it are compared, and in a clean sequence the maskless reading is asked,
-   and what each scan is owed.
+   back and every byte of every buffer and round it are compared, and in a clean sequence the maskless reading is asked.
    At the first difference the sequence is shrunk and printed, and the program ends with 1. */
 #ifndef SECOND_PLAY_H
 #define SECOND_PLAY_H

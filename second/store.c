@@ -447,10 +447,9 @@ uint64_t CALL(owed)(SHOWN, uint32_t ticket)
     if (position == POSITIONS)
         return 10;
     uint64_t count = 0;
-    if (s.card[position].place < s.t)
-        for (uint32_t k = 0; k < s.t; k++)
-            if (s.table[k].number != 0 && bit_of(s.table[k].mask, position) == bit_of(s.stable, position))
-                count++;
+    for (uint32_t k = 0; k < s.t; k++)
+        if (s.table[k].number != 0 && bit_of(s.table[k].mask, position) == bit_of(s.stable, position))
+            count++;
     for (uint32_t k = 0; k < s.r; k++)
         if (s.shelf[k].number != 0 && !bit_of(s.shelf[k].mask, position))
             count++;

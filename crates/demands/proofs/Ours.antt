@@ -14,7 +14,6 @@ use Rattle.demands.proofs.machines.Finishing.{ours-finish}
 use Rattle.demands.proofs.machines.Lowest.{ours_the_lowest}
 use Rattle.demands.proofs.page.MasksMove.{masks_move}
 use Rattle.demands.proofs.machines.NoSmaller.{ours_no_smaller}
-use Rattle.demands.proofs.page.Owed.{owed_is_rest}
 use Rattle.demands.proofs.page.Packing.{our_numbers_tell}
 use Rattle.demands.proofs.page.PeekIsNext.{peek_is_next}
 use Rattle.demands.proofs.machines.Refused.{room_of_ours}
@@ -34,7 +33,6 @@ ours =
       masks = masks_move;
       table_one = table-one;
       next = rule_of_next;
-      owed = owed_is_rest;
       spelt = spelt;
       peek = peek_is_next;
       lowest_number = ours_the_lowest;

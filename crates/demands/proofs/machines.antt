@@ -1,11 +1,8 @@
 pub mod AnyMachine
 pub mod Refused
 pub mod Finishing
-pub mod Asked
-pub mod Rest
 pub mod SameAnswers
 pub mod OneHistory
-pub mod SameOwed
 pub mod Small
 pub mod NoSmaller
 pub mod SameBytes

@@ -8,7 +8,6 @@ pub mod Spelt
 pub mod TableOneMoves
 pub mod TableOne
 pub mod RuleOfNext
-pub mod Owed
 pub mod DemandOne
 pub mod Packing
 pub mod PeekIsNext

@@ -36,7 +36,7 @@ module _ (T R : ℕ) (s : Scan) (budget : ℕ) (out : List ℕ) where
 abbrev pub Unrefused : Answer → Type 0
 Unrefused a = (j : ℕ) → a ≡ Answer.refused j → ⊥
 
--- what a call gives that no reason refuses; peek, tally and owed read only, and RuleOfNext and Owed say what they answer
+-- what a call gives that no reason refuses; peek, tally and owed read only, and the rule of next says what they answer
 module _ (T R : ℕ) (h : History) where
   abbrev pub Going : Option Scan → ℕ → List ℕ → Answer → Type 0
   Going none b o a = ⊥

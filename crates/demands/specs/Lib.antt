@@ -13,7 +13,6 @@ pub mod Masks
 pub mod TableOne
 pub mod Spelt
 pub mod Finishing
-pub mod Owed
 pub mod Packing
 pub mod Lowest
 pub mod Host

@@ -6,7 +6,6 @@ use Rattle.demands.specs.Finishing.{Finishing}
 use Rattle.demands.specs.Lowest.{LowestAnswered}
 use Rattle.demands.specs.Machine.{Machine}
 use Rattle.demands.specs.Masks.{MasksMove}
-use Rattle.demands.specs.Owed.{OwedIsRest}
 use Rattle.demands.specs.Packing.{NumberTells}
 use Rattle.demands.specs.Placement.{Placing, TakesEmpty}
 use Rattle.demands.specs.RuleOfNext.{RuleOfNext, PeekIsNext}
@@ -26,10 +25,8 @@ pub record Meets (M : Machine) (P : Placing) : Type 0 where
   -- the masks say, and move, as in section III-A
   pub masks : MasksMove M P
   pub table_one : TableOne M P
-  -- the looks are those of the rule of next; peek and tally accordingly
+  -- the looks are those of the rule of next; peek, tally and owed accordingly
   pub next : RuleOfNext M P
-  -- owed is what a scan will yet hand out, wherever newcomers are put
-  pub owed : OwedIsRest M
   -- what stands in every other byte
   pub spelt : Spelt M P
   -- what peek tells is what next would hand out, on any lent bytes

@@ -1,8 +1,8 @@
--- The rule of next, and what peek and tally answer: "The number of looks in an answer equals the looks of this rule." It stands
+-- The rule of next, and what peek, tally and owed answer: "The number of looks in an answer equals the looks of this rule." It stands
 -- apart from demand 2, which says nothing of where a version is put.
-use Rattle.std.specs.Prelude.{◌≡◌, List, [], ◌⊎◌, ℕ, ◌+◌, ◌-◌, ◌≤◌, length}
+use Rattle.std.specs.Prelude.{◌≡◌, cond, List, [], ◌⊎◌, ℕ, ◌+◌, ◌-◌, ◌≤◌, ltb, length}
 use Rattle.std.proofs.Math.Option.{Option, none, some}
-use Rattle.demands.specs.History.{Version, Scan, needed, scan_of}
+use Rattle.demands.specs.History.{Version, Scan, History, needed, waiting, scan_of}
 use Rattle.rules.specs.Passed.{All, Well, LentBytes}
 use Rattle.demands.specs.Lives.{Opening, table_slots, shelf_entries, bytes_after, past}
 use Rattle.demands.specs.Machine.{Machine, Within, slots}
@@ -15,6 +15,10 @@ use Rattle.rules.specs.Refusals.{Call, Reading}
 -- "the record that next with unbounded budget would hand out. In all other cases the part is empty."
 abbrev pub Peeks : List (Option Version) → Scan → ℕ → List ℕ → Type 0
 Peeks l s end bytes = ((n : ℕ) × Passes l s n × Finds l s n bytes) ⊎ (Passes l s (end - s.looks) × (bytes ≡ []))
+
+-- what is still to come; past its table walk a scan is told the whole table too
+abbrev pub stillToCome : ℕ → History → Scan → ℕ
+stillToCome T h s = cond (ltb s.looks T) (length (waiting s)) (length h.live + length (waiting s))
 
 module _ (M : Machine) (o : Opening) (cs : List Call) where
   abbrev pub answer : Call → Answer
@@ -41,6 +45,10 @@ pub record RuleOfNext (M : Machine) (P : Placing) : Type 0 where
       → (part : List ℕ) × (answer M o cs (Call.reading (Reading.peek t)) ≡ Answer.shown (Shown.part part)) × Peeks (in_order M o cs P) s (table_slots o + shelf_entries o) part
   pub tallies : (o : Opening) (cs : List Call) → All Within cs
       → answer M o cs (Call.reading Reading.tally) ≡ Answer.shown (Shown.counted (length (past M o cs).live) (length (needed (past M o cs))))
+  pub owes : (o : Opening) (cs : List Call) → All Within cs → (t : ℕ) → Within (Call.reading (Reading.owed t))
+      → Granted M o cs (Call.reading (Reading.owed t))
+      → (s : Scan) → scan_of (past M o cs) t ≡ some s
+      → answer M o cs (Call.reading (Reading.owed t)) ≡ Answer.shown (Shown.owing (stillToCome (table_slots o) (past M o cs) s))
 
 -- what next hands out: the record in hand, or nothing
 abbrev pub brought : Answer → List ℕ → List ℕ

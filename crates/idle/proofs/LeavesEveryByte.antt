@@ -7,7 +7,7 @@ use mathlib.Core.List.{List, [], ◌∷◌}
 use Prim.Native.Nat.{ℕ, ◌≤◌}
 use native.Mathlib.Omega.{arith}
 use lib.Dec.{leb}
-use lib.ListN.{length, replicate}
+use lib.ListN.{length}
 use borrow.Author.Tests.{eq-eqb, ne_eqb, not-true, lt-leb}
 use Rattle.demands.specs.DemandTwo.{Fulfils, Answers, Demand2}
 use Rattle.demands.specs.Finishing.{Finished}
@@ -20,8 +20,7 @@ use Rattle.rules.specs.Answers.{Answer, Draw}
 use Rattle.rules.specs.Memory.{Lent}
 use Rattle.rules.specs.Refusals.{Call, Change, first_of, refused_as}
 use Rattle.demands.proofs.machines.AnyMachine.{Bounded, any_told}
-use Rattle.idle.proofs.Caught.{buffer_right}
-use Rattle.demands.proofs.machines.Asked.{ends}
+use Rattle.idle.proofs.Caught.{ends}
 use Rattle.demands.proofs.lists.Lists.{In, in_left, any_in, none_any, those_in}
 use Rattle.demands.proofs.history.Past.{Past}
 use Rattle.stores.proofs.Sizes.{zero-bytes}
@@ -107,8 +106,8 @@ module _ (M : Machine) (p : LeavesEveryByte M) (d : Demand2 M) where
       let i : In s h.running = subst (In s) (sym e) (Memᴰ.head refl) in
       let passable : Within (Call.next s.ticket 1 buffer) = (omega (arith, (told.0.scans s i).high, told.1.given), omega arith, zero-bytes 56) in
       let is : scan_of h s.ticket ≡ some s = rw (e, eq-eqb s.ticket s.ticket refl) refl in
-      let w = ends M d o p.moment.calls p.moment.within s.ticket s is buffer buffer_right passable in
-      let f = subst (λ (x : Lent). Finished s.ticket (Call.next s.ticket 1 buffer) (M x (Call.next s.ticket 1 buffer)).answer) (p.leaves (replicate w.times (Call.next s.ticket 1 buffer)) w.within) w.finished in
+      let w = ends M d p.moment s.ticket s is passable in
+      let f = subst (λ (x : Lent). Finished s.ticket (Call.next s.ticket 1 buffer) (M x (Call.next s.ticket 1 buffer)).answer) (p.leaves w.calls w.within) w.finished in
       finish_once o.n (table_slots o) (shelf_entries o) h s.ticket _ _ (twice (Call.next s.ticket 1 buffer) passable) f
 
   -- none runs: a record can be inserted, or deleted, and then no more

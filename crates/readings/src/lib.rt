@@ -28,14 +28,10 @@ pub fn owed(desk: &[u8], table: &[u8], shelf: &[u8], ticket: Ticket) -> OwedAnsw
 {
     let p = running::scan_of(desk, ticket);
     if p.below(64) {
-        let place = desk::card_at(desk, p).place as usize;
         let stable = desk::stable_mask(desk);
+        let records = counts::waiting(table, stable, p);
         let entries = counts::waiting(shelf, Masks::NO_FLIP, p);
-        if place < slots::slot_count(table) {
-            let both = counts::waiting(table, stable, p) + entries;
-            return OwedAnswer::Owing(both);
-        }
-        return OwedAnswer::Owing(entries);
+        return OwedAnswer::Owing(records + entries);
     }
     OwedAnswer::Refused(10)
 }

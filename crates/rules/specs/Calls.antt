@@ -1,5 +1,5 @@
 -- What open, insert, modify, delete, begin, tally and owed do.
-use Rattle.std.specs.Prelude.{Bool, true, false, not, ◌&&◌, List, [], ◌∷◌, ℕ, zero, suc, ◌+◌, ltb, eqb, length, get_or, set, replicate}
+use Rattle.std.specs.Prelude.{Bool, true, false, not, ◌&&◌, List, [], ◌∷◌, ℕ, zero, suc, ◌+◌, eqb, length, get_or, set, replicate}
 use Rattle.std.proofs.Math.Option.{Option, none, some}
 use Rattle.rules.specs.declared.Card.{Card}
 use Rattle.rules.specs.Masks.{Masks, bit, on, off, all_ones, fresh, walk_begun, new_status, m_of}
@@ -109,23 +109,9 @@ abbrev pub used : List Slot → ℕ
 used l = count in_use l
 
 -- ---- "Owed (ticket): table records whose status bit equals the stable bit at the scan's position, plus shelf entries in use whose
--- bit is 0 there." In the shelf walk, by request 2026-01: "there the table part counts nothing."
-
--- "place T + k is shelf entry k": below T the scan of card p is in its table walk, from T on in its shelf walk
-abbrev pub in_table_walk : Store → ℕ → Bool
-in_table_walk S p = ltb (card_of S p).place (T S)
-
--- of a scan in its table walk; in its shelf walk nothing
-abbrev pub table_part : Bool → Store → ℕ → ℕ
-table_part true S p = count (λ s. in_use s && eqb (bit s.mask p) (bit S.desk.masks.stable p)) S.table
-table_part false S p = 0
-
-abbrev pub shelf_part : Store → ℕ → ℕ
-shelf_part S p = count (λ s. in_use s && off s.mask p) S.shelf
-
--- of a scan that is in its table walk, or is not
-abbrev pub owed_in : Bool → Store → ℕ → ℕ
-owed_in walk S p = table_part walk S p + shelf_part S p
+-- bit is 0 there."
 
 abbrev pub owed_by : Store → ℕ → ℕ
-owed_by S p = owed_in (in_table_walk S p) S p
+owed_by S p =
+    count (λ s. in_use s && eqb (bit s.mask p) (bit S.desk.masks.stable p)) S.table
+    + count (λ s. in_use s && off s.mask p) S.shelf

@@ -5,7 +5,6 @@ pub mod HighBits
 pub mod SoundDesk
 pub mod OnePosition
 pub mod ChangesFine
-pub mod ShelfWalk
 pub mod LooksFine
 pub mod Spelling
 pub mod Stays

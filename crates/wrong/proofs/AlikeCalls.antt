@@ -1,9 +1,9 @@
--- Every call on our store and on the one that clears its bits at begin: the same refusals and answers, and stores that are alike again.
+-- Every call on our store and on the one that clears its bits at begin: the same refusals, and stores that are alike again.
 use mathlib.Core.Path.{◌≡◌, refl, sym, ap, ◌∙◌, subst}
 use mathlib.Core.Bool.{Bool, true, false, not, ◌&&◌, false≢true}
 use mathlib.Core.Option.{Option, none, some}
 use mathlib.Core.List.{List, [], ◌∷◌, map}
-use Prim.Native.Nat.{ℕ, ◌+◌, ◌^◌, ◌≤◌, ◌<◌}
+use Prim.Native.Nat.{ℕ, ◌^◌, ◌≤◌, ◌<◌}
 use native.Mathlib.Omega.{arith}
 use native.Mathlib.Decide.{ℕ_discrete}
 use lib.Bits.{bit_xor, and_le_l}
@@ -12,28 +12,27 @@ use lib.ListN.{length, get_or, set, length-set, length-map, get_or-map}
 use lib.Pow.{pow_pos}
 use borrow.Author.Tests.{ltb-true, eqb-true, not-false}
 use Rattle.wrong.specs.ClearAtBegin.{cleared_if, cleared_slot, cleared_all, clearing}
-use Rattle.wrong.specs.Ways.{walk_by, effect_by}
+use Rattle.wrong.specs.Ways.{effect_by}
+use Rattle.demands.specs.DemandTwo.{Unrefused}
 use Rattle.demands.specs.History.{Version}
 use Rattle.rules.specs.Passed.{All, Byte}
 use Rattle.demands.specs.Machine.{Within}
 use Rattle.demands.specs.Masks.{one_if}
-use Rattle.rules.specs.Answers.{Answer, Shown}
-use Rattle.rules.specs.Calls.{slot_in, in_use, bearing, empty_slot, shelf_entry, free_position, position_of, inserted, unawaited, present, replaced, changed_by, changed, given, used}
+use Rattle.rules.specs.Calls.{slot_in, in_use, bearing, empty_slot, shelf_entry, free_position, position_of, inserted, unawaited, present, replaced, changed_by, changed, given}
 use Rattle.rules.specs.Masks.{bit, on, NOT, scan_mask, Masks, cleared, walk_begun, new_status}
 use Rattle.rules.specs.Memory.{Slot, slot, free, Store, store, T, R}
-use Rattle.rules.specs.Next.{walk}
-use Rattle.rules.specs.Refusals.{Call, Change, Reading, kind_right, own_right, first_of, there, no_room, no_scan, own_refusals, effect}
+use Rattle.rules.specs.Next.{Told}
+use Rattle.rules.specs.Refusals.{Call, Change, Reading, kind_right, own_right, first_of, there, no_room, own_refusals, effect}
 use Rattle.rules.proofs.Bits.{bit_low, bit-zero, bit-xor}
 use Rattle.rules.proofs.TableOne.{new_passed, clear_own, clear_other}
 use Rattle.rules.proofs.First.{first_found}
 use Rattle.stores.proofs.FirstOf.{Untrue, same_first}
 use Rattle.wrong.proofs.Alike.{unturned, other, SlotAlike, Alike, Twin, in_use_some, free-alike, bearing-same, there-same, there-used, unawaited-same, present-same}
-use Rattle.wrong.proofs.AlikeCounts.{used-same, owed_same}
-use Rattle.wrong.proofs.AlikeLooks.{ToldAlike, walk-alike}
+use Rattle.wrong.proofs.AlikeLooks.{walk-alike}
 use Rattle.demands.proofs.invariant.BeginKeeps.{free_seat}
 use Rattle.stores.proofs.ChangesFine.{Writes, new_small, replaced_sized}
 use Rattle.demands.proofs.invariant.Invariant.{Inv, resting}
-use Rattle.stores.proofs.LooksFine.{BusyAt, ticket_busy}
+use Rattle.stores.proofs.LooksFine.{ticket_busy}
 use Rattle.demands.proofs.invariant.Marks.{OK, set_both}
 use Rattle.demands.proofs.invariant.Moment.{Moment, aw, table_of}
 use Rattle.stores.proofs.OnePosition.{Fine, n_most}
@@ -160,6 +159,18 @@ module _ (S : Store) (f : Fine S) (t : List Slot) (a : Alike S t) where
 
 -- ---- every call
 
+-- peek, tally and owed are not refused; every other call answers and hands out the same
+abbrev pub Likewise : Call → Told → Told → Type 0
+Likewise (Call.opening n) x y = (y.answer ≡ x.answer) × (y.out ≡ x.out)
+Likewise (Call.change c) x y = (y.answer ≡ x.answer) × (y.out ≡ x.out)
+Likewise Call.begin x y = (y.answer ≡ x.answer) × (y.out ≡ x.out)
+Likewise (Call.next t b o) x y = (y.answer ≡ x.answer) × (y.out ≡ x.out)
+Likewise (Call.reading q) x y = Unrefused y.answer
+
+pub record CallAlike (c : Call) (x y : Told) : Type 0 where
+  pub says : Likewise c x y
+  pub after : Twin x.after y.after
+
 module _ {now : Moment} (q : Inv now) (u : List Slot) (a : Alike now.store u) where
   abbrev S : Store
   S = now.store
@@ -178,35 +189,22 @@ module _ {now : Moment} (q : Inv now) (u : List Slot) (a : Alike now.store u) wh
       subst (λ (i : ℕ). Twin (changed S (bearing S.table k) b) (changed (other S u) i b)) (sym (bearing-same S u a k))
       (changed-alike S q.fine u a (bearing S.table k) (ltb-true _ _ y) (there-used S k (some_number k z) y) b w)
 
-  twin : Twin S (other S u)
-  twin = record { table = u; is = refl; alike = a }
-
-  -- the scan of a ticket, on its card
-  busy : (k : ℕ) → no_scan S k ≡ false → BusyAt S (position_of S k)
-  busy k e = ticket_busy S q.fine (position_of S k) (at_position S k e) (omega (arith, ticket-there S k e, ticket-some S k e))
-
-  walks : (k : ℕ) → no_scan S k ≡ false → (o : List ℕ) (b : ℕ) → ToldAlike (walk S (position_of S k) b 0 o) (walk_by clearing (other S u) (position_of S k) b 0 o)
-  walks k e o b = walk-alike (position_of S k) (at_position S k e) o b S 0 q.fine (busy k e) u a
-
-  pub effect-alike : (c : Call) → Within c → own_right c ≡ true → Untrue (own_refusals S c) → ToldAlike (effect S c) (effect_by clearing (other S u) c)
+  pub effect-alike : (c : Call) → Within c → own_right c ≡ true → Untrue (own_refusals S c) → CallAlike c (effect S c) (effect_by clearing (other S u) c)
   unfolding effect effect_by own_refusals own_right
   effect-alike (Call.opening m) w own e = absurd (false≢true (sym w.1 ∙ not-false _ e.0))
   effect-alike (Call.change (Change.insert k b)) w own e =
-      record { answer = refl; out = refl; after = inserted-alike S q.fine u a k b (some_number k e.0) w.0 (eqb-true _ _ own) w.1 (ltb-true _ _ (not-false _ e.1.1.1.0)) }
-  effect-alike (Call.change (Change.modify k b)) w own e = record { answer = refl; out = refl; after = change-alike k (some b) (eqb-true _ _ own, w.1) e.0 e.1.1.0 }
-  effect-alike (Call.change (Change.delete k)) w own e = record { answer = refl; out = refl; after = change-alike k none tt e.0 e.1.0 }
+      record { says = (refl, refl); after = inserted-alike S q.fine u a k b (some_number k e.0) w.0 (eqb-true _ _ own) w.1 (ltb-true _ _ (not-false _ e.1.1.1.0)) }
+  effect-alike (Call.change (Change.modify k b)) w own e = record { says = (refl, refl); after = change-alike k (some b) (eqb-true _ _ own, w.1) e.0 e.1.1.0 }
+  effect-alike (Call.change (Change.delete k)) w own e = record { says = (refl, refl); after = change-alike k none tt e.0 e.1.0 }
   effect-alike Call.begin w own e =
       let p : free_position S < S.desk.n = ltb-true _ _ (not-false _ e.0) in
       let hp : free_position S < 64 = omega (arith, n_most S q.fine) in
       let x : bit S.desk.masks.active (free_position S) ≡ 1 = eqb-true _ _ (first_found (λ i. on S.desk.masks.active i) 0 S.desk.n (omega arith)) in
-      record { answer = refl; out = refl; after = begun-alike S q.fine u a (free_position S) hp (free-stable (free_position S) hp x) }
-  effect-alike (Call.next k b o) w own e = walks k e.0 o b
-  effect-alike (Call.reading (Reading.peek k)) w own e =
-      record {
-        answer = ap (λ (x : List ℕ). Answer.shown (Shown.part x)) (ap (λ (n : ℕ). (walk_by clearing (other S u) (position_of S k) (n + R S) 0 []).out) a.all ∙ (walks k e.0 [] (T S + R S)).out);
-        out = refl;
-        after = twin;
-      }
-  effect-alike (Call.reading Reading.tally) w own e = record { answer = ap (λ (n : ℕ). Answer.shown (Shown.counted n (used S.shelf))) (used-same S u a); out = refl; after = twin }
-  effect-alike (Call.reading (Reading.owed k)) w own e =
-      record { answer = ap (λ (n : ℕ). Answer.shown (Shown.owing n)) (owed_same S u a (position_of S k) (at_position S k e.0) (busy k e.0)); out = refl; after = twin }
+      record { says = (refl, refl); after = begun-alike S q.fine u a (free_position S) hp (free-stable (free_position S) hp x) }
+  effect-alike (Call.next k b o) w own e =
+      let p : position_of S k < 64 = at_position S k e.0 in
+      let x = walk-alike (position_of S k) p o b S 0 q.fine (ticket_busy S q.fine (position_of S k) p (omega (arith, ticket-there S k e.0, ticket-some S k e.0))) u a in
+      record { says = (x.answer, x.out); after = x.after }
+  effect-alike (Call.reading (Reading.peek k)) w own e = record { says = λ m z. let y : ◌≡◌ {A = ℕ} 0 1 = cc in omega arith; after = record { table = u; is = refl; alike = a } }
+  effect-alike (Call.reading Reading.tally) w own e = record { says = λ m z. let y : ◌≡◌ {A = ℕ} 0 1 = cc in omega arith; after = record { table = u; is = refl; alike = a } }
+  effect-alike (Call.reading (Reading.owed k)) w own e = record { says = λ m z. let y : ◌≡◌ {A = ℕ} 0 1 = cc in omega arith; after = record { table = u; is = refl; alike = a } }

@@ -1,4 +1,4 @@
--- Our store and the one that clears its bits at begin, along any calls: every answer and hand-out is the same, and the bytes read alike.
+-- Our store and the one that clears its bits at begin, along any calls: every answer tells the same, and the bytes read alike.
 use mathlib.Core.Path.{◌≡◌, refl, sym, ap, ◌∙◌, subst}
 use mathlib.Core.Bool.{Bool, not, ◌&&◌, and-false}
 use mathlib.Core.Option.{Option, none, some}
@@ -8,23 +8,26 @@ use lib.ListN.{replicate}
 use Rattle.wrong.specs.ClearAtBegin.{clearing, clear_at_begin}
 use Rattle.wrong.specs.Ways.{effect_by, replied_by, called_by}
 use Rattle.demands.specs.DemandOne.{SameLengths}
-use Rattle.demands.specs.History.{History}
+use Rattle.demands.specs.DemandTwo.{Fulfils, Answers}
+use Rattle.demands.specs.History.{History, heard, tells}
 use Rattle.rules.specs.Passed.{All}
 use Rattle.demands.specs.Lives.{Opening, table_slots, shelf_entries, Accepted, bytes_after, events, past}
 use Rattle.demands.specs.Machine.{Within}
 use Rattle.demands.specs.Placement.{lowest, Places, places_after}
+use Rattle.demands.specs.Reasons.{reason}
 use Rattle.rules.specs.Calls.{opened}
 use Rattle.rules.specs.Masks.{fresh}
 use Rattle.rules.specs.Memory.{Lent, free, Store, read, written}
+use Rattle.rules.specs.Next.{Told}
 use Rattle.rules.specs.Refusals.{Call, Reply, lengths_right, own_right, all_right, first_of, own_refusals, looks_at_desk, refusals, effect, written_all, replied, called}
 use Rattle.rules.specs.Sound.{sound}
 use Rattle.stores.proofs.FirstOf.{same_first, skip_first}
 use Rattle.wrong.proofs.Alike.{other, SlotAlike, Twin, free-alike, other_sized, other_sound}
-use Rattle.wrong.proofs.AlikeCalls.{own_same, effect-alike}
+use Rattle.wrong.proofs.AlikeCalls.{Likewise, own_same, effect-alike}
 use Rattle.stores.proofs.Codec.{read-written}
 use Rattle.demands.proofs.page.DemandOne.{accepted, accepted_fine}
 use Rattle.demands.proofs.page.DemandTwo.{demand_2}
-use Rattle.demands.proofs.page.Lives.{Living, well, accepted_is, refused_is, opening-reads, all_live}
+use Rattle.demands.proofs.page.Lives.{Living, well, accepted_is, refused_is, opening-reads, refusals_are, call_lives, all_live}
 use Rattle.stores.proofs.OnePosition.{Fine}
 use Rattle.stores.proofs.Sizes.{SlotSized, Sized, replicate-all, free_sized}
 use Rattle.stores.proofs.SoundDesk.{of_sound}
@@ -65,6 +68,23 @@ clear_refused : (l : Lent) (c : Call) (k : ℕ) → first_of (refusals l c) ≡ 
 unfolding called_by replied_by replied
 clear_refused l c k e = rw e refl
 
+-- the answers of two that do likewise tell the same
+likewise-heard : (h : History) (c : Call) (x y : Told) → Likewise c x y → heard h c y.answer y.out ≡ heard h c x.answer x.out
+unfolding heard
+likewise-heard h (Call.opening n) x y w = refl
+likewise-heard h (Call.change c) x y w = λ i. heard h (Call.change c) (w.0 i) (w.1 i)
+likewise-heard h Call.begin x y w = λ i. heard h Call.begin (w.0 i) (w.1 i)
+likewise-heard h (Call.next t b o) x y w = λ i. heard h (Call.next t b o) (w.0 i) (w.1 i)
+likewise-heard h (Call.reading q) x y w = refl
+
+likewise-fulfils : (t r : ℕ) (h : History) (c : Call) (x y : Told) → Likewise c x y → Fulfils t r h c x.answer x.out → Fulfils t r h c y.answer y.out
+unfolding Fulfils
+likewise-fulfils t r h (Call.opening n) x y w f = w.0 ∙ f
+likewise-fulfils t r h (Call.change c) x y w f = w.0 ∙ f
+likewise-fulfils t r h Call.begin x y w f = w.0 ∙ f
+likewise-fulfils t r h (Call.next k b o) x y w f = rw (w.0, w.1) f
+likewise-fulfils t r h (Call.reading q) x y w f = w
+
 module _ (n t r : ℕ) (l k : Lent) (h : History) (p : Places) (v : Living n t r l h p) (w : Twins l k) (c : Call) (in_life_lem : Within c) where
   same-refusals : first_of (refusals k c) ≡ first_of (refusals l c)
   unfolding refusals
@@ -78,15 +98,15 @@ module _ (n t r : ℕ) (l k : Lent) (h : History) (p : Places) (v : Living n t r
   -- what our reply and its say and leave
   pub record Both (x y : Reply) : Type 0 where
     pub twins : Twins x.after y.after
-    pub answer : y.answer ≡ x.answer
-    pub out : y.out ≡ x.out
+    pub answers : Answers t r h (reason n t r h c) c y.answer y.out
+    pub told : heard h c y.answer y.out ≡ heard h c x.answer x.out
 
-  refused-both : (j : ℕ) → Both (replied (some j) l c) (replied (some j) k c)
+  refused-both : (j : ℕ) → reason n t r h c ≡ some j → Both (replied (some j) l c) (replied (some j) k c)
   unfolding replied
-  refused-both j = record { twins = w; answer = refl; out = refl }
+  refused-both j e = record { twins = w; answers = rw e refl; told = refl }
 
-  accepted_both : first_of (refusals l c) ≡ none → Both (written_all (effect (read l) c)) (written_all (effect_by clearing (read k) c))
-  accepted_both e =
+  accepted_both : first_of (refusals l c) ≡ none → Answers t r h none c (effect (read l) c).answer (effect (read l) c).out → Both (written_all (effect (read l) c)) (written_all (effect_by clearing (read k) c))
+  accepted_both e g =
       let a = accepted l c e in
       let z = w.stores in
       let x = effect-alike v.keeps z.table z.alike c in_life_lem a.own a.others in
@@ -94,16 +114,19 @@ module _ (n t r : ℕ) (l k : Lent) (h : History) (p : Places) (v : Living n t r
       subst (λ (Z : Store). Both (written_all (effect (read l) c)) (written_all (effect_by clearing Z c))) (sym z.is)
       (record {
         twins = twins_written (effect (read l) c).after (effect_by clearing (other (read l) z.table) c).after f x.after;
-        answer = x.answer;
-        out = x.out;
+        answers = subst (λ (o : Option ℕ). Answers t r h o c (effect_by clearing (other (read l) z.table) c).answer (effect_by clearing (other (read l) z.table) c).out) (sym e ∙ refusals_are v c in_life_lem)
+            (likewise-fulfils t r h c (effect (read l) c) (effect_by clearing (other (read l) z.table) c) x.says g);
+        told = likewise-heard h c (effect (read l) c) (effect_by clearing (other (read l) z.table) c) x.says;
       })
 
   both : Both (called l c) (clear_at_begin k c)
   both = go (first_of (refusals l c)) refl
     where
       go : (o : Option ℕ) → first_of (refusals l c) ≡ o → Both (called l c) (clear_at_begin k c)
-      go none e = rw (accepted_is l c e, clear_accepted k c (same-refusals ∙ e)) (accepted_both e)
-      go (some j) e = rw (refused_is l c j e, clear_refused k c j (same-refusals ∙ e)) (refused-both j)
+      go none e =
+          rw (accepted_is l c e, clear_accepted k c (same-refusals ∙ e))
+          (accepted_both e (subst (λ (y : Reply). Answers t r h none c y.answer y.out) (accepted_is l c e) (subst (λ (o : Option ℕ). Answers t r h o c (called l c).answer (called l c).out) (sym (refusals_are v c in_life_lem) ∙ e) (call_lives v c in_life_lem).answers)))
+      go (some j) e = rw (refused_is l c j e, clear_refused k c j (same-refusals ∙ e)) (refused-both j (sym (refusals_are v c in_life_lem) ∙ e))
 
 -- ---- any calls
 
@@ -136,29 +159,23 @@ module _ (o : Opening) where
   -- after these calls
   pub record Along (cs : List Call) : Type 0 where
     pub twins : Twins (bytes_after called o cs) (bytes_after clear_at_begin o cs)
-    pub same : events clear_at_begin o cs ≡ events called o cs
+    pub told : past clear_at_begin o cs ≡ past called o cs
 
   module _ (cs : List Call) (ws : All Within cs) (z : Along cs) (c : Call) (w : Within c) where
-    one_more : Both o.n (table_slots o) (shelf_entries o) (bytes_after called o cs) (bytes_after clear_at_begin o cs) (past called o cs) (places_after called lowest o cs) (all_live o cs ws) z.twins c w (called (bytes_after called o cs) c) (clear_at_begin (bytes_after clear_at_begin o cs) c)
-    one_more = both o.n (table_slots o) (shelf_entries o) (bytes_after called o cs) (bytes_after clear_at_begin o cs) (past called o cs) (places_after called lowest o cs) (all_live o cs ws) z.twins c w
+    pub next_both : Both o.n (table_slots o) (shelf_entries o) (bytes_after called o cs) (bytes_after clear_at_begin o cs) (past called o cs) (places_after called lowest o cs) (all_live o cs ws) z.twins c w (called (bytes_after called o cs) c) (clear_at_begin (bytes_after clear_at_begin o cs) c)
+    next_both = both o.n (table_slots o) (shelf_entries o) (bytes_after called o cs) (bytes_after clear_at_begin o cs) (past called o cs) (places_after called lowest o cs) (all_live o cs ws) z.twins c w
 
   pub along : (cs : List Call) → All Within cs → Along cs
-  unfolding bytes_after events
+  unfolding bytes_after events tells
   along [] ws =
       record {
         twins = subst (Twins (bytes_after called o [])) (sym opening-same)
             (record { stores = rw (opening-reads o) (opened_twin o.n (table_slots o) (shelf_entries o)); lengths = record { desk = refl; table = refl; shelf = refl } });
-        same = refl;
+        told = refl;
       }
   along (c ∷ cs) ws = go (along cs ws.1)
     where
       go : Along cs → Along (c ∷ cs)
-      go z = let x = one_more cs ws.1 z c ws.0 in record { twins = x.twins; same = λ i. record { call = c; answer = x.answer i; out = x.out i } ∷ z.same i }
-
-  -- every further call is answered as ours is, and hands out the same
-  module _ (cs : List Call) (ws : All Within cs) (c : Call) (w : Within c) where
-    pub same_answer : (clear_at_begin (bytes_after clear_at_begin o cs) c).answer ≡ (called (bytes_after called o cs) c).answer
-    same_answer = (one_more cs ws (along cs ws) c w).answer
-
-    pub same_out : (clear_at_begin (bytes_after clear_at_begin o cs) c).out ≡ (called (bytes_after called o cs) c).out
-    same_out = (one_more cs ws (along cs ws) c w).out
+      go z =
+          let x = next_both cs ws.1 z c ws.0 in
+          record { twins = x.twins; told = ap (λ (h : History). heard h c (clear_at_begin (bytes_after clear_at_begin o cs) c).answer (clear_at_begin (bytes_after clear_at_begin o cs) c).out) z.told ∙ x.told }

@@ -1,6 +1,5 @@
--- The store that clears its bits at begin answers every call as ours does, owed too, holds the same versions and spells the same bytes but
--- for the masks: it meets demands 2 and 3, the rule of next and owed-is-rest. Its masks alone give it away: they do not move as in section
--- III-A, its stable bits never turn.
+-- The store that clears its bits at begin answers as ours does and holds the same versions: it meets demands 2 and 3. Its masks do not
+-- move as in section III-A: its stable bits never turn.
 use mathlib.Core.Path.{◌≡◌, refl, sym, ap, ◌∙◌, subst}
 use mathlib.Core.Option.{Option, none, some}
 use mathlib.Core.List.{List, [], ◌∷◌}
@@ -9,74 +8,40 @@ use native.Mathlib.Omega.{arith}
 use lib.ListN.{length, get_or}
 use Rattle.wrong.specs.ClearAtBegin.{clear_at_begin}
 use Rattle.demands.specs.DemandThree.{Reads, Holds, Demand3}
-use Rattle.demands.specs.DemandTwo.{Fulfils, Demand2}
-use Rattle.demands.specs.History.{Version, scan, History, history, needed, scan_of, heard, tells}
+use Rattle.demands.specs.DemandTwo.{Fulfils, Answers, Demand2}
+use Rattle.demands.specs.History.{Version, scan, History, history, needed, heard, tells}
 use Rattle.idle.specs.Idle.{buffer}
 use Rattle.rules.specs.Passed.{All}
-use Rattle.demands.specs.Lives.{Opening, table_slots, shelf_entries, bytes_after, events, past}
+use Rattle.demands.specs.Lives.{table_slots, shelf_entries, bytes_after, events, past}
 use Rattle.demands.specs.Machine.{Within}
 use Rattle.demands.specs.Masks.{walks_ended, MasksMove}
-use Rattle.demands.specs.Owed.{OwesAwaited, OwedIsRest}
-use Rattle.demands.specs.Placement.{Placing, Places, TakesEmpty, lowest, moves, all_told, placed, places_after}
-use Rattle.demands.specs.Reasons.{reasons}
-use Rattle.demands.specs.RuleOfNext.{RuleOfNext}
-use Rattle.demands.specs.Spelt.{Spells, Spelt}
+use Rattle.demands.specs.Placement.{Placing, TakesEmpty, moves, all_told, placed}
+use Rattle.demands.specs.Reasons.{reasons, reason}
 use Rattle.rules.specs.Answers.{Answer, Draw}
 use Rattle.rules.specs.Calls.{slot_in}
 use Rattle.rules.specs.Masks.{bit}
-use Rattle.rules.specs.Memory.{Lent, Slot, Store, slots_of, store_of, read}
-use Rattle.rules.specs.Refusals.{Call, Reading, first_of, called}
+use Rattle.rules.specs.Memory.{Lent, Slot, Store, slots_of, store_of}
+use Rattle.rules.specs.Refusals.{Call, first_of, called}
 use Rattle.rules.proofs.Bits.{bit-zero}
-use Rattle.wrong.proofs.AlikeLives.{Twins, opens, opening-same, along, same_answer, same_out}
+use Rattle.wrong.proofs.AlikeLives.{Twins, opens, opening-same, next_both, along}
 use Rattle.idle.proofs.OneMore.{one_more, answered, pauses}
 use Rattle.demands.proofs.machines.Small.{small, tiny}
-use Rattle.demands.proofs.machines.Rest.{passed, rest_of}
 use Rattle.demands.proofs.page.DemandThree.{demand_3}
 use Rattle.demands.proofs.page.DemandTwo.{demand_2}
-use Rattle.demands.proofs.page.Owed.{owed_is_rest}
-use Rattle.demands.proofs.page.RuleOfNext.{rule_of_next}
-use Rattle.demands.proofs.page.Spelt.{spelt}
 use Rattle.stores.proofs.Sizes.{zero-bytes}
 
 -- ---- the answers
-
--- every call of every life is answered as ours is, and hands out the same
-pub clear_at_begin_answers : (o : Opening) (cs : List Call) → All Within cs → (c : Call) → Within c
-    → ((clear_at_begin (bytes_after clear_at_begin o cs) c).answer ≡ (called (bytes_after called o cs) c).answer) × ((clear_at_begin (bytes_after clear_at_begin o cs) c).out ≡ (called (bytes_after called o cs) c).out)
-clear_at_begin_answers o cs ws c w = (same_answer o cs ws c w, same_out o cs ws c w)
-
-module _ (o : Opening) (cs : List Call) (ws : All Within cs) where
-  same-past : past clear_at_begin o cs ≡ past called o cs
-  same-past = ap tells (along o cs ws).same
-
-  same-places : places_after clear_at_begin lowest o cs ≡ places_after called lowest o cs
-  same-places = ap (placed lowest o.n (table_slots o) (shelf_entries o)) (along o cs ws).same
 
 pub clear_at_begin_meets_2 : Demand2 clear_at_begin
 clear_at_begin_meets_2 =
     record {
       opens = opens;
       alike = λ o p en et er. opening-same o ∙ demand_2.alike o p en et er ∙ sym (opening-same p);
-      answers = λ o cs ws c w. rw (same-past o cs ws, same_answer o cs ws c w, same_out o cs ws c w) (demand_2.answers o cs ws c w);
+      answers = λ o cs ws c w.
+          let z = along o cs ws in
+          subst (λ (h : History). Answers (table_slots o) (shelf_entries o) h (reason o.n (table_slots o) (shelf_entries o) h c) c (clear_at_begin (bytes_after clear_at_begin o cs) c).answer (clear_at_begin (bytes_after clear_at_begin o cs) c).out) (sym z.told)
+          (next_both o cs ws z c w).answers;
     }
-
-pub clear_at_begin_meets_next : RuleOfNext clear_at_begin lowest
-clear_at_begin_meets_next =
-    record {
-      looks = λ o cs ws t b out w e s is. rw (same-places o cs ws, same_answer o cs ws (Call.next t b out) w, same_out o cs ws (Call.next t b out) w)
-          (rule_of_next.looks o cs ws t b out w (rw (same-past o cs ws) at e) s (rw (same-past o cs ws) at is));
-      peeks = λ o cs ws t w e s is. rw (same-places o cs ws, same_answer o cs ws (Call.reading (Reading.peek t)) w)
-          (rule_of_next.peeks o cs ws t w (rw (same-past o cs ws) at e) s (rw (same-past o cs ws) at is));
-      tallies = λ o cs ws. rw (same-past o cs ws, same_answer o cs ws (Call.reading Reading.tally) tt) (rule_of_next.tallies o cs ws);
-    }
-
-pub clear_at_begin_meets_owed : OwedIsRest clear_at_begin
-clear_at_begin_meets_owed = rest_of clear_at_begin clear_at_begin_meets_2 owes
-  where
-    owes : OwesAwaited clear_at_begin
-    owes o cs ws t s is =
-        let e : scan_of (past called o cs) t ≡ some s = rw (same-past o cs ws) at is in
-        same_answer o cs ws (Call.reading (Reading.owed t)) (passed called demand_2 o cs t s e ws) ∙ owed_is_rest.awaited o cs ws t s e
 
 -- ---- the versions that both hold
 
@@ -87,39 +52,26 @@ module _ (l k : Lent) (w : Twins l k) where
       let e : slots_of k.shelf ≡ slots_of l.shelf = ap (λ (Z : Store). Z.shelf) w.stores.is in
       record { which = q.which; all = q.all ∙ ap length (sym e); each = q.each; spelt = λ i. rw e (q.spelt i) }
 
-  -- a slot of both reads as one version
-  reads_both : (i : ℕ) (x : Option Version) → Reads (slot_in (read l).table i) x → Reads (slot_in w.stores.table i) x
-  reads_both i none f = (w.stores.alike.slots i).empty (ap (λ (s : Slot). s.number) f) ∙ f
-  reads_both i (some v) f = ((w.stores.alike.slots i).number ∙ f.0, (w.stores.alike.slots i).body ∙ f.1)
-
   table-held : (vs : List Version) → Holds l.table vs → Holds k.table vs
   unfolding store_of
   table-held vs q =
       let e : slots_of k.table ≡ w.stores.table = ap (λ (Z : Store). Z.table) w.stores.is in
-      record { which = q.which; all = q.all ∙ sym (ap length e ∙ w.stores.alike.all); each = q.each; spelt = λ i. rw e (reads_both i (get_or q.which i none) (q.spelt i)) }
-
-  both_spell : (N T R : ℕ) (h : History) (p : Places) → Spells N T R h p (read l) → Spells N T R h p (read k)
-  both_spell N T R h p q =
-      subst (Spells N T R h p) (sym w.stores.is)
-      (record { n = q.n; t = q.t; r = q.r; last = q.last; zeros = q.zeros; cards = q.cards; table = λ j. reads_both j (get_or p.table j none) (q.table j); shelf = q.shelf })
+      record { which = q.which; all = q.all ∙ sym (ap length e ∙ w.stores.alike.all); each = q.each; spelt = λ i. rw e (go i (get_or q.which i none) (q.spelt i)) }
+    where
+      go : (i : ℕ) (x : Option Version) → Reads (slot_in (slots_of l.table) i) x → Reads (slot_in w.stores.table i) x
+      go i none f = (w.stores.alike.slots i).empty (ap (λ (s : Slot). s.number) f) ∙ f
+      go i (some v) f = ((w.stores.alike.slots i).number ∙ f.0, (w.stores.alike.slots i).body ∙ f.1)
 
 pub clear_at_begin_meets_3 : Demand3 clear_at_begin
 clear_at_begin_meets_3 =
     record {
       shelf = λ o a cs ws.
           let z = along o cs ws in
-          subst (λ (h : History). Holds (bytes_after clear_at_begin o cs).shelf (needed h)) (sym (same-past o cs ws)) (shelf-held _ _ z.twins (needed (past called o cs)) (demand_3.shelf o (demand_2.opens o) cs ws));
+          subst (λ (h : History). Holds (bytes_after clear_at_begin o cs).shelf (needed h)) (sym z.told) (shelf-held _ _ z.twins (needed (past called o cs)) (demand_3.shelf o (demand_2.opens o) cs ws));
       table = λ o a cs ws.
           let z = along o cs ws in
-          subst (λ (h : History). Holds (bytes_after clear_at_begin o cs).table h.live) (sym (same-past o cs ws)) (table-held _ _ z.twins (past called o cs).live (demand_3.table o (demand_2.opens o) cs ws));
+          subst (λ (h : History). Holds (bytes_after clear_at_begin o cs).table h.live) (sym z.told) (table-held _ _ z.twins (past called o cs).live (demand_3.table o (demand_2.opens o) cs ws));
     }
-
--- every byte that is no mask is ours
-pub clear_at_begin_spells : Spelt clear_at_begin lowest
-unfolding Spelt
-clear_at_begin_spells o a cs ws =
-    rw (same-past o cs ws, same-places o cs ws)
-    (both_spell (bytes_after called o cs) (bytes_after clear_at_begin o cs) (along o cs ws).twins o.n (table_slots o) (shelf_entries o) (past called o cs) (places_after called lowest o cs) (spelt o (demand_2.opens o) cs ws))
 
 -- ---- the masks
 

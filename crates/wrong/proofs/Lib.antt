@@ -4,7 +4,6 @@ pub mod FirstChangeOnly
 pub mod OldStore
 pub mod Alike
 pub mod AlikeLooks
-pub mod AlikeCounts
 pub mod AlikeCalls
 pub mod AlikeLives
 pub mod ClearAtBegin

@@ -3,7 +3,7 @@ use Rattle.std.proofs.Math.Option.{Option, none, some}
 use Rattle.std.specs.Prelude.{List, [], ℕ, ◌+◌}
 use Rattle.demands.specs.Machine.{Machine}
 use Rattle.rules.specs.Answers.{Answer, Shown}
-use Rattle.rules.specs.Calls.{free_position, position_of, given, in_table_walk, owed_in}
+use Rattle.rules.specs.Calls.{free_position, position_of, given, owed_by}
 use Rattle.rules.specs.Masks.{Masks, walk_ended}
 use Rattle.rules.specs.Memory.{Lent, Store, T, R, read}
 use Rattle.rules.specs.Next.{Told, told}
@@ -41,7 +41,7 @@ module _ (w : Ways) where
   abbrev pub shows_by : Store → Reading → Shown
   shows_by S (Reading.peek ticket) = Shown.part (walk_by S (position_of S ticket) (T S + R S) 0 []).out
   shows_by S Reading.tally = shows S Reading.tally
-  shows_by S (Reading.owed ticket) = Shown.owing (owed_in (in_table_walk S (position_of S ticket)) S (w.position S (position_of S ticket)))
+  shows_by S (Reading.owed ticket) = Shown.owing (owed_by S (w.position S (position_of S ticket)))
 
   unfoldable pub effect_by : Store → Call → Told
   effect_by S (Call.opening n) = effect S (Call.opening n)

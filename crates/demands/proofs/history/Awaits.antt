@@ -119,15 +119,6 @@ those_less p q v (x ∷ l) h i e f g = go (Memᴰ.cases_cons i) (λ j. those_les
         step true a = rw (a, agree ∙ a) (Permutation.both (Permutation.next (ih j)) Permutation.swap)
         step false a = rw (a, agree ∙ a) (ih j)
 
-pub waiting_less : (n : ℕ) (s : Scan) (v : Version) → Apart (λ (x : Version). x.number) s.began → ((u : Version) → In u s.began → u.number < 4294967296) → In v s.began → awaits s v ≡ true
-    → Permutation (waiting s) (v ∷ waiting (onward n (reads v ∷ []) s))
-waiting_less n s v ap' small i e =
-    those_less (awaits s) (awaits (onward n (reads v ∷ []) s)) v s.began ap' i e (awaits_gone n s v) (λ u j d. awaits_other n s u v (small u j) (small v i) (λ q. d))
-
--- and none of them, where places are passed
-pub waiting_passed : (n : ℕ) (s : Scan) → waiting (onward n [] s) ≡ waiting s
-waiting_passed n s = those-same (awaits (onward n [] s)) (awaits s) s.began (λ v i. awaits_passed n s v)
-
 -- what has been handed out and what is awaited are what it began with
 abbrev pub Handing : Scan → Type 0
 Handing s = Permutation (s.handed ++ map reads (waiting s)) (map reads s.began)
@@ -136,11 +127,12 @@ pub handing_first : (t l : ℕ) (b : List Version) → Handing (scan t b [] l)
 handing_first t l b = rw (those-all (awaits (scan t b [] l)) b (λ v i. awaits-first t l b v i)) (same (map reads b))
 
 pub handing_passed : (n : ℕ) (s : Scan) → Handing s → Handing (onward n [] s)
-handing_passed n s h = rw (waiting_passed n s) h
+handing_passed n s h = rw (those-same (awaits (onward n [] s)) (awaits s) s.began (λ v i. awaits_passed n s v)) h
 
 pub handing_handed : (n : ℕ) (s : Scan) (v : Version) → Apart (λ (x : Version). x.number) s.began → ((u : Version) → In u s.began → u.number < 4294967296) → In v s.began → awaits s v ≡ true → Handing s
     → Handing (onward n (reads v ∷ []) s)
 handing_handed n s v ap' small i e h =
-    let p : Permutation (waiting s) (v ∷ waiting (onward n (reads v ∷ []) s)) = waiting_less n s v ap' small i e in
+    let p : Permutation (waiting s) (v ∷ waiting (onward n (reads v ∷ []) s)) =
+    those_less (awaits s) (awaits (onward n (reads v ∷ []) s)) v s.began ap' i e (awaits_gone n s v) (λ u j d. awaits_other n s u v (small u j) (small v i) (λ q. d)) in
     Permutation.both (middle (reads v) s.handed (map reads (waiting (onward n (reads v ∷ []) s))))
     (Permutation.both (perm_after s.handed (reads v ∷ map reads (waiting (onward n (reads v ∷ []) s))) (map reads (waiting s)) (back (perm_map reads (waiting s) (v ∷ waiting (onward n (reads v ∷ []) s)) p))) h)

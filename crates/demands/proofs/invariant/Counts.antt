@@ -13,14 +13,15 @@ use borrow.Author.Tests.{eqb-false, eq-eqb, ne_eqb}
 use Rattle.demands.specs.History.{Version, Scan, awaits, awaited, needed, waiting}
 use Rattle.demands.specs.Lists.{those, standing}
 use Rattle.demands.specs.Masks.{one_if}
-use Rattle.rules.specs.Calls.{slot_in, in_use, count, used, in_table_walk, table_part, owed_by}
+use Rattle.demands.specs.RuleOfNext.{stillToCome}
+use Rattle.rules.specs.Calls.{slot_in, in_use, count, used, owed_by}
 use Rattle.rules.specs.Masks.{bit, off}
 use Rattle.rules.specs.Memory.{Slot, T}
 use Rattle.rules.proofs.Bits.{bit_low, bit-xor}
 use Rattle.demands.proofs.lists.Apart.{Apart, apart-those}
 use Rattle.demands.proofs.invariant.Invariant.{NumberOK, Inv, table_numbers, shelf_numbers, gt_length, gs_length, runs_at, position, seat, busy, slot_of, entry_of, live_at, beyond}
 use Rattle.demands.proofs.invariant.Moment.{Moment, aw, aw_at}
-use Rattle.demands.proofs.lists.Lists.{In, in_left, in_right, in_cases, any_in, those_in, in_those, those-none, those-those, perm_length, perm_those}
+use Rattle.demands.proofs.lists.Lists.{In, in_left, in_right, in_cases, any_in, those_in, in_those, those-none, those-those, those-same, perm_length, perm_those}
 use Rattle.demands.proofs.history.Past.{ever, number_of, change_of, awaited-began}
 use Rattle.demands.proofs.lists.Places.{At}
 
@@ -120,11 +121,16 @@ module _ {now : Moment} (q : Inv now) where
     equal_bits x y hx hy true e = ne_eqb x y (λ z. omega arith)
     equal_bits x y hx hy false e = eq-eqb x y (omega arith)
 
-    walks : in_table_walk now.store p ≡ ltb s.looks now.t
-    walks = ap (λ (x : ℕ). ltb x (T now.store)) (seat q p s here).place ∙ ap (ltb s.looks) q.is_t
-
     local_is : off now.store.desk.masks.local p ≡ ltb s.looks now.t
-    local_is = sym (busy q p s here).local ∙ walks
+    local_is = sym (busy q p s here).local ∙ ap (λ (x : ℕ). ltb x (T now.store)) (seat q p s here).place ∙ ap (ltb s.looks) q.is_t
+
+    table_agrees : (i : ℕ) (o : Option Version) → get_or now.table i none ≡ o → Agrees in_table (λ v. not (ltb s.looks now.t && not (awaits s v))) (slot_in now.store.table i) o
+    table_agrees i none e = not_in_use (slot_in now.store.table i) (subst (NumberOK (slot_in now.store.table i)) e (table_numbers q i)) (eqb (bit (slot_in now.store.table i).mask p) (bit now.store.desk.masks.stable p))
+    table_agrees i (some v) e =
+        let w = slot_of q i v e in
+        in_use (slot_in now.store.table i) w.some (eqb (bit (slot_in now.store.table i).mask p) (bit now.store.desk.masks.stable p))
+        ∙ equal_bits (bit (slot_in now.store.table i).mask p) (bit now.store.desk.masks.stable p) (bit_low (slot_in now.store.table i).mask p) (bit_low now.store.desk.masks.stable p) (ltb s.looks now.t && not (awaits s v))
+        (sym (bit-xor now.store.desk.masks.stable (slot_in now.store.table i).mask p) ∙ w.bits p hp ∙ ap (λ (b : Bool). one_if (b && not (aw now p v))) local_is ∙ ap (λ (b : Bool). one_if (ltb s.looks now.t && not b)) (aw_at now p s here v))
 
     shelf_agrees : (i : ℕ) (o : Option Version) → get_or now.shelf i none ≡ o → Agrees on_shelf (awaits s) (slot_in now.store.shelf i) o
     shelf_agrees i none e = not_in_use (slot_in now.store.shelf i) (subst (NumberOK (slot_in now.store.shelf i)) e (shelf_numbers q i)) (off (slot_in now.store.shelf i).mask p)
@@ -163,20 +169,10 @@ module _ {now : Moment} (q : Inv now) where
         ∙ perm_length (those (awaits s) (standing now.shelf)) (those (awaits s) (needed now.history)) (perm_those (awaits s) (standing now.shelf) (needed now.history) q.shelved)
         ∙ ap length (those-those (awaited now.history) (awaits s) now.history.left (λ v e. any_in (λ u. awaits u v) now.history.running s runs e))
 
-    module _ (walking : ltb s.looks now.t ≡ true) where
-      table_agrees : (i : ℕ) (o : Option Version) → get_or now.table i none ≡ o → Agrees in_table (awaits s) (slot_in now.store.table i) o
-      table_agrees i none e = not_in_use (slot_in now.store.table i) (subst (NumberOK (slot_in now.store.table i)) e (table_numbers q i)) (eqb (bit (slot_in now.store.table i).mask p) (bit now.store.desk.masks.stable p))
-      table_agrees i (some v) e =
-          let w = slot_of q i v e in
-          in_use (slot_in now.store.table i) w.some (eqb (bit (slot_in now.store.table i).mask p) (bit now.store.desk.masks.stable p))
-          ∙ equal_bits (bit (slot_in now.store.table i).mask p) (bit now.store.desk.masks.stable p) (bit_low (slot_in now.store.table i).mask p) (bit_low now.store.desk.masks.stable p) (not (awaits s v))
-          (sym (bit-xor now.store.desk.masks.stable (slot_in now.store.table i).mask p) ∙ w.bits p hp ∙ ap (λ (b : Bool). one_if (b && not (aw now p v))) (local_is ∙ walking) ∙ ap (λ (b : Bool). one_if (not b)) (aw_at now p s here v))
-          ∙ not-not (awaits s v)
-
-      table-count : count in_table now.store.table ≡ length (those (awaits s) now.history.live)
-      table-count =
-          count_is in_table (awaits s) now.store.table now.table (gt_length q) (λ i k. table_agrees i (get_or now.table i none) refl)
-          ∙ perm_length _ _ (perm_those (awaits s) (standing now.table) now.history.live q.tabled)
+    table-count : count in_table now.store.table ≡ length (those (λ v. not (ltb s.looks now.t && not (awaits s v))) now.history.live)
+    table-count =
+        count_is in_table (λ v. not (ltb s.looks now.t && not (awaits s v))) now.store.table now.table (gt_length q) (λ i k. table_agrees i (get_or now.table i none) refl)
+        ∙ perm_length _ _ (perm_those (λ v. not (ltb s.looks now.t && not (awaits s v))) (standing now.table) now.history.live q.tabled)
 
     -- past its table walk nothing in the table is awaited
     none-live : ltb s.looks now.t ≡ false → length (those (awaits s) now.history.live) ≡ 0
@@ -185,9 +181,9 @@ module _ {now : Moment} (q : Inv now) where
         (λ v i. let w = live_at q v i in
         sym (aw_at now p s here v) ∙ beyond q w.0 v w.1 p hp (omega (arith, bit_low now.store.desk.masks.local p, eqb-false (bit now.store.desk.masks.local p) 0 (local_is ∙ e)))))
 
-    pub owed_is : owed_by now.store p ≡ length (waiting s)
-    owed_is = rw (walks, shelf-count) (go (ltb s.looks now.t) refl)
+    pub owed_is : owed_by now.store p ≡ stillToCome now.t now.history s
+    owed_is = rw (table-count, shelf-count) (go (ltb s.looks now.t) refl)
       where
-        go : (b : Bool) → ltb s.looks now.t ≡ b → table_part b now.store p + length (those (awaits s) now.history.left) ≡ length (waiting s)
-        go true e = rw (table-count e) waiting_is
-        go false e = omega (arith, waiting_is, none-live e)
+        go : (b : Bool) → ltb s.looks now.t ≡ b → length (those (λ v. not (b && not (awaits s v))) now.history.live) + length (those (awaits s) now.history.left) ≡ cond b (length (waiting s)) (length now.history.live + length (waiting s))
+        go true e = rw (those-same (λ v. not (not (awaits s v))) (awaits s) now.history.live (λ v i. not-not (awaits s v))) waiting_is
+        go false e = rw (all_pass now.history.live) (omega (arith, waiting_is, none-live e))

@@ -29,7 +29,7 @@ use Rattle.demands.proofs.history.Past.{Past}
 
 -- ---- the scan of a ticket, as scans go on and finish
 
-pub own_goes : (t n : ℕ) (o : List (List ℕ)) (l : List Scan) (s : Scan) → first_that (ticketed t) l ≡ some s → first_that (ticketed t) (map (goes_on t n o) l) ≡ some (onward n o s)
+own_goes : (t n : ℕ) (o : List (List ℕ)) (l : List Scan) (s : Scan) → first_that (ticketed t) l ≡ some s → first_that (ticketed t) (map (goes_on t n o) l) ≡ some (onward n o s)
 own_goes t n o [] s e = absurd (none-ne-some s e)
 own_goes t n o (x ∷ l) s e = go (ticketed t x) refl (own_goes t n o l s)
   where

@@ -1,5 +1,4 @@
--- Two machines that meet demand 2, the rule of next and owed-is-rest, with versions put in the same places, answer every list of calls
--- alike.
+-- Two machines that meet demand 2 and the rule of next, with versions put in the same places, answer every list of calls alike.
 use mathlib.Core.Path.{◌≡◌, refl, sym, ap, ◌∙◌, subst}
 use mathlib.Core.Bool.{Bool, true, false, not, ◌||◌, cond, false≢true}
 use mathlib.Core.Option.{Option, none, some, some-injective, some-ne-none}
@@ -9,15 +8,14 @@ use native.Mathlib.Omega.{arith}
 use lib.ListN.{length, get_or, set, length-set, length-replicate, length-append}
 use borrow.Author.Tests.{not-false}
 use Rattle.demands.specs.DemandTwo.{Going, Fulfils, Answers, Demand2}
-use Rattle.demands.specs.History.{Event, Version, Scan, History, awaited, needed, waiting, ticketed, on_done, on_next, runs, scan_of, heard, tells, tells_from, untold}
+use Rattle.demands.specs.History.{Event, Version, Scan, History, awaited, needed, ticketed, on_done, on_next, runs, scan_of, heard, tells, tells_from, untold}
 use Rattle.rules.specs.Passed.{All}
 use Rattle.demands.specs.Lists.{any, first_that}
 use Rattle.demands.specs.Lives.{Opening, table_slots, shelf_entries, bytes_after, events, past}
 use Rattle.demands.specs.Machine.{Machine, Within}
-use Rattle.demands.specs.Owed.{OwedIsRest}
 use Rattle.demands.specs.Placement.{Choice, Placing, Places, sit, place_of, shelve, moves, all_told, placed, placed_from, all_told_from, unplaced, places_after, row, LooksRight}
 use Rattle.demands.specs.Reasons.{reason, reasons}
-use Rattle.demands.specs.RuleOfNext.{Peeks, RuleOfNext}
+use Rattle.demands.specs.RuleOfNext.{Peeks, stillToCome, RuleOfNext}
 use Rattle.rules.specs.Answers.{Answer, Shown, number}
 use Rattle.rules.specs.Refusals.{Call, Change, Reading, first_of, refused_as}
 use Rattle.stores.proofs.FirstOf.{Untrue, holds-first, no_refusal, none-holds, skip_first}
@@ -71,7 +69,7 @@ placed_sized start P T R first i (e ∷ es) =
 
 -- ---- an answer that is right of a history and its places
 
-pub first_any : (t : ℕ) (l : List Scan) → any (ticketed t) l ≡ true → (s : Scan) × (first_that (ticketed t) l ≡ some s)
+first_any : (t : ℕ) (l : List Scan) → any (ticketed t) l ≡ true → (s : Scan) × (first_that (ticketed t) l ≡ some s)
 first_any t [] e = absurd (false≢true e)
 first_any t (x ∷ l) e = go (ticketed t x) refl (first_any t l)
   where
@@ -87,7 +85,7 @@ module _ (N T R : ℕ) (h : History) (p : Places) (i : Sized T R p) where
   ReadRight (Call.next t b o) a out = (s : Scan) → scan_of h t ≡ some s → LooksRight (row p) s out a
   ReadRight (Call.reading (Reading.peek t)) a out = (s : Scan) → scan_of h t ≡ some s → (part : List ℕ) × (a ≡ Answer.shown (Shown.part part)) × Peeks (row p) s (T + R) part
   ReadRight (Call.reading Reading.tally) a out = a ≡ Answer.shown (Shown.counted (length h.live) (length (needed h)))
-  ReadRight (Call.reading (Reading.owed t)) a out = (s : Scan) → scan_of h t ≡ some s → a ≡ Answer.shown (Shown.owing (length (waiting s)))
+  ReadRight (Call.reading (Reading.owed t)) a out = (s : Scan) → scan_of h t ≡ some s → a ≡ Answer.shown (Shown.owing (stillToCome T h s))
 
   pub record Right (c : Call) (a : Answer) (out : List ℕ) : Type 0 where
     pub answers : Answers T R h (reason N T R h c) c a out
@@ -152,7 +150,7 @@ module _ (N T R : ℕ) (h : History) (p : Places) (i : Sized T R p) where
 
 -- ---- every list of calls
 
-module _ (M : Machine) (P : Placing) (d : Demand2 M) (r : RuleOfNext M P) (m : OwedIsRest M) (o : Opening) (cs : List Call) (ws : All Within cs) where
+module _ (M : Machine) (P : Placing) (d : Demand2 M) (r : RuleOfNext M P) (o : Opening) (cs : List Call) (ws : All Within cs) where
   -- where every list of calls leads, there are as many places
   sized : Sized (table_slots o) (shelf_entries o) (places_after M P o cs)
   unfolding placed
@@ -169,9 +167,9 @@ module _ (M : Machine) (P : Placing) (d : Demand2 M) (r : RuleOfNext M P) (m : O
       reads (Call.next t b x) w e = λ s is. r.looks o cs ws t b x w e s is
       reads (Call.reading (Reading.peek t)) w e = λ s is. r.peeks o cs ws t w e s is
       reads (Call.reading Reading.tally) w e = r.tallies o cs ws
-      reads (Call.reading (Reading.owed t)) w e = λ s is. m.awaited o cs ws t s is
+      reads (Call.reading (Reading.owed t)) w e = λ s is. r.owes o cs ws t w e s is
 
-module _ (M K : Machine) (P : Placing) (d : Demand2 M) (r : RuleOfNext M P) (m : OwedIsRest M) (f : Demand2 K) (g : RuleOfNext K P) (k : OwedIsRest K) (o : Opening) where
+module _ (M K : Machine) (P : Placing) (d : Demand2 M) (r : RuleOfNext M P) (f : Demand2 K) (g : RuleOfNext K P) (o : Opening) where
   abbrev T : ℕ
   T = table_slots o
 
@@ -184,11 +182,11 @@ module _ (M K : Machine) (P : Placing) (d : Demand2 M) (r : RuleOfNext M P) (m :
     pub places : places_after K P o cs ≡ places_after M P o cs
 
   module _ (cs : List Call) (ws : All Within cs) (z : OneHistory cs) (c : Call) (w : Within c) where
-    there : Right o.n T R (past M o cs) (places_after M P o cs) (sized M P d r m o cs ws) c (K (bytes_after K o cs) c).answer (K (bytes_after K o cs) c).out
-    there = move (past M o cs) (places_after M P o cs) (sized M P d r m o cs ws) z.tell z.places (is_right K P f g k o cs ws c w)
+    there : Right o.n T R (past M o cs) (places_after M P o cs) (sized M P d r o cs ws) c (K (bytes_after K o cs) c).answer (K (bytes_after K o cs) c).out
+    there = move (past M o cs) (places_after M P o cs) (sized M P d r o cs ws) z.tell z.places (is_right K P f g o cs ws c w)
       where
         move : (h : History) (p : Places) (i : Sized T R p) → past K o cs ≡ h → places_after K P o cs ≡ p
-            → Right o.n T R (past K o cs) (places_after K P o cs) (sized K P f g k o cs ws) c (K (bytes_after K o cs) c).answer (K (bytes_after K o cs) c).out
+            → Right o.n T R (past K o cs) (places_after K P o cs) (sized K P f g o cs ws) c (K (bytes_after K o cs) c).answer (K (bytes_after K o cs) c).out
             → Right o.n T R h p i c (K (bytes_after K o cs) c).answer (K (bytes_after K o cs) c).out
         move h p i eh ep x =
             resize (subst (λ (y : Places). (j : Sized T R y) → Right o.n T R h y j c (K (bytes_after K o cs) c).answer (K (bytes_after K o cs) c).out) ep
@@ -200,7 +198,7 @@ module _ (M K : Machine) (P : Placing) (d : Demand2 M) (r : RuleOfNext M P) (m :
 
     pub one-step : ((K (bytes_after K o cs) c).answer ≡ (M (bytes_after M o cs) c).answer)
         × (heard (past M o cs) c (K (bytes_after K o cs) c).answer (K (bytes_after K o cs) c).out ≡ heard (past M o cs) c (M (bytes_after M o cs) c).answer (M (bytes_after M o cs) c).out)
-    one-step = same_step o.n T R (past M o cs) (places_after M P o cs) (sized M P d r m o cs ws) c _ _ _ _ there (is_right M P d r m o cs ws c w)
+    one-step = same_step o.n T R (past M o cs) (places_after M P o cs) (sized M P d r o cs ws) c _ _ _ _ there (is_right M P d r o cs ws c w)
 
   pub one-history : (cs : List Call) → All Within cs → OneHistory cs
   unfolding events tells all_told placed
@@ -218,7 +216,7 @@ module _ (M K : Machine) (P : Placing) (d : Demand2 M) (r : RuleOfNext M P) (m :
   pub same_outs : (cs : List Call) → All Within cs → (t b : ℕ) (x : List ℕ) → Within (Call.next t b x) → number (K (bytes_after K o cs) (Call.next t b x)).answer ≡ 0
       → (K (bytes_after K o cs) (Call.next t b x)).out ≡ (M (bytes_after M o cs) (Call.next t b x)).out
   same_outs cs ws t b x w z =
-      same_out o.n T R (past M o cs) (places_after M P o cs) (sized M P d r m o cs ws) t b x _ _ _ _ (there cs ws (one-history cs ws) (Call.next t b x) w) (is_right M P d r m o cs ws (Call.next t b x) w) z
+      same_out o.n T R (past M o cs) (places_after M P o cs) (sized M P d r o cs ws) t b x _ _ _ _ (there cs ws (one-history cs ws) (Call.next t b x) w) (is_right M P d r o cs ws (Call.next t b x) w) z
 
   -- the answer to every further call
   pub same-answers : (cs : List Call) → All Within cs → (c : Call) → Within c → (K (bytes_after K o cs) c).answer ≡ (M (bytes_after M o cs) c).answer

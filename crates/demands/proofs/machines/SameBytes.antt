@@ -74,8 +74,8 @@ same-slot s t none a b m = a ∙ sym b
 same-slot s t (some v) a b m = λ i. record { number = (a.0 ∙ sym b.0) i; body = (a.1 ∙ sym b.1) i; mask = m v refl i }
 
 module _ (M K : Machine) (P : Placing) (m : Meets M P) (k : Meets K P) (o : Opening) where
-  here : (cs : List Call) → All Within cs → OneHistory M K P m.two m.next m.owed k.two k.next k.owed o cs
-  here cs ws = one-history M K P m.two m.next m.owed k.two k.next k.owed o cs ws
+  here : (cs : List Call) → All Within cs → OneHistory M K P m.two m.next k.two k.next o cs
+  here cs ws = one-history M K P m.two m.next k.two k.next o cs ws
 
   same-stands : (cs : List Call) → All Within cs → (i : ℕ) → stands_at K P o cs i ≡ stands_at M P o cs i
   same-stands cs ws i = let z = here cs ws in λ j. sitting (z.tell j) (z.places j) i
@@ -191,7 +191,7 @@ module _ (M K : Machine) (P : Placing) (m : Meets M P) (k : Meets K P) (o : Open
         c = Call.next t b out
 
         go : Dec (number (K (bytes_after K o cs) c).answer ≡ 0) → (K (bytes_after K o cs) c).out ≡ (M (bytes_after M o cs) c).out
-        go (yes z) = same_outs M K P m.two m.next m.owed k.two k.next k.owed o cs ws t b out w z
+        go (yes z) = same_outs M K P m.two m.next k.two k.next o cs ws t b out w z
         go (no z) =
             k.one.leaves_out (bytes_after K o cs) c (life_bytes K k.one o cs ws) (well c w) z
-            ∙ sym (m.one.leaves_out (bytes_after M o cs) c (life_bytes M m.one o cs ws) (well c w) (λ y. z (ap number (same-answers M K P m.two m.next m.owed k.two k.next k.owed o cs ws c w) ∙ y)))
+            ∙ sym (m.one.leaves_out (bytes_after M o cs) c (life_bytes M m.one o cs ws) (well c w) (λ y. z (ap number (same-answers M K P m.two m.next k.two k.next o cs ws c w) ∙ y)))

@@ -10,7 +10,7 @@ use lib.ListN.{length}
 use borrow.Author.Tests.{eqb-true}
 use Rattle.demands.specs.Fits.{OfNext, Fits}
 use Rattle.rules.specs.Answers.{Answer, Draw}
-use Rattle.rules.specs.Calls.{card_of, position_of, in_use, count, used, in_table_walk, table_part, shelf_part, owed_in, owed_by}
+use Rattle.rules.specs.Calls.{card_of, position_of, in_use, count, used, owed_by}
 use Rattle.rules.specs.Memory.{Lent, Slot, Store, T, R}
 use Rattle.rules.specs.Next.{look, at_end, walk}
 use Rattle.rules.specs.Refusals.{Call, Reading, first_of, refusals, own_refusals, looks_at_desk, no_scan, effect, refused_as}
@@ -104,12 +104,8 @@ module _ (S : Store) (slots : T S ≤ 16384) (entries : R S ≤ 1048576) where
   scan_busy : Fine S → (t : ℕ) → no_scan S t ≡ false → BusyAt S (position_of S t)
   scan_busy f t u = ticket_busy S f (position_of S t) (at_position S t u) (omega (arith, ticket-there S t u, ticket-some S t u))
 
-  table_most : (walk : Bool) (p : ℕ) → table_part walk S p ≤ T S
-  table_most true p = count_most _ S.table
-  table_most false p = omega arith
-
-  owed_most : (walk : Bool) (p : ℕ) → owed_in walk S p ≤ 1064960
-  owed_most walk p = let e : shelf_part S p ≤ R S = count_most _ S.shelf in omega (arith, table_most walk p)
+  both_most : (p q : Slot → Bool) → count p S.table + count q S.shelf ≤ 1064960
+  both_most p q = omega (arith, count_most p S.table, count_most q S.shelf)
 
   pub effect-fits : (c : Call) → (looks_at_desk c ≡ true → Fine S) → Untrue (own_refusals S c) → Fits c (effect S c).answer
   unfolding effect own_refusals looks_at_desk Fits
@@ -121,4 +117,4 @@ module _ (S : Store) (slots : T S ≤ 16384) (entries : R S ≤ 1048576) where
       ((walk S (position_of S t) (T S + R S) 0 []).out, out-fits S (f refl) (omega arith) (position_of S t) (at_position S t u.0) (scan_busy (f refl) t u.0) (T S + R S) [], refl)
   effect-fits (Call.reading Reading.tally) f u =
       inl (used S.table, used S.shelf, omega (arith, count_most in_use S.table), omega (arith, count_most in_use S.shelf), refl)
-  effect-fits (Call.reading (Reading.owed t)) f u = inl (owed_by S (position_of S t), owed_most (in_table_walk S (position_of S t)) (position_of S t), refl)
+  effect-fits (Call.reading (Reading.owed t)) f u = inl (owed_by S (position_of S t), both_most _ _, refl)

@@ -1,4 +1,4 @@
--- The calls of document 01 look as the rule of next has it; peek and tally answer accordingly.
+-- The calls of document 01 look as the rule of next has it; peek, tally and owed answer accordingly.
 use mathlib.Core.Path.{◌≡◌, refl, sym, ap, ◌∙◌, subst}
 use mathlib.Core.Bool.{false}
 use mathlib.Core.Option.{none, some}
@@ -14,14 +14,14 @@ use Rattle.demands.specs.Lives.{Opening, table_slots, shelf_entries, bytes_after
 use Rattle.demands.specs.Machine.{Within}
 use Rattle.demands.specs.Placement.{lowest, places_after, row, LooksRight}
 use Rattle.demands.specs.Reasons.{reason, reasons}
-use Rattle.demands.specs.RuleOfNext.{Peeks, RuleOfNext}
+use Rattle.demands.specs.RuleOfNext.{Peeks, stillToCome, RuleOfNext}
 use Rattle.rules.specs.Answers.{Answer, Draw, Shown, number}
 use Rattle.rules.specs.Calls.{position_of}
 use Rattle.rules.specs.Memory.{T, R, read}
 use Rattle.rules.specs.Next.{walk, peeked}
 use Rattle.rules.specs.Refusals.{Call, Reading, Reply, first_of, no_scan, own_refusals, refusals, effect, out_of, called}
 use Rattle.stores.proofs.FirstOf.{no_refusal}
-use Rattle.demands.proofs.invariant.Counts.{records_are, entries_are}
+use Rattle.demands.proofs.invariant.Counts.{records_are, entries_are, owed_is}
 use Rattle.demands.proofs.page.DemandOne.{accepted, out-left}
 use Rattle.demands.proofs.invariant.Invariant.{Inv, runs_at}
 use Rattle.demands.proofs.invariant.Moment.{Moment, end}
@@ -32,7 +32,7 @@ use Rattle.demands.proofs.invariant.ReasonsAre.{scan_at, scan_of_lem}
 
 module _ {now : Moment} (q : Inv now) (k : ℕ) (runs : no_scan now.store k ≡ false) (s : Scan) (is : scan_of now.history k ≡ some s) where
   -- the scan of the ticket, at its position
-  pub here : At now.seats (position_of now.store k) s
+  here : At now.seats (position_of now.store k) s
   here =
       let w = scan_at q k runs in
       let e : scan_of now.history k ≡ some w.0 = ap (λ (x : ℕ). scan_of now.history x) (sym w.2) ∙ scan_of_lem q w.0 (runs_at q (position_of now.store k) w.0 w.1) in
@@ -64,10 +64,10 @@ module _ (o : Opening) (cs : List Call) (ws : All Within cs) where
   v : Living o.n (table_slots o) (shelf_entries o) (bytes_after called o cs) (past called o cs) (places_after called lowest o cs)
   v = all_live o cs ws
 
-  pub unrefused : (c : Call) → Within c → reason o.n (table_slots o) (shelf_entries o) (past called o cs) c ≡ none → first_of (refusals (bytes_after called o cs) c) ≡ none
+  unrefused : (c : Call) → Within c → reason o.n (table_slots o) (shelf_entries o) (past called o cs) c ≡ none → first_of (refusals (bytes_after called o cs) c) ≡ none
   unrefused c w e = refusals_are v c w ∙ e
 
-  pub effect-answer : (c : Call) → Within c → reason o.n (table_slots o) (shelf_entries o) (past called o cs) c ≡ none → (called (bytes_after called o cs) c).answer ≡ (effect (read (bytes_after called o cs)) c).answer
+  effect-answer : (c : Call) → Within c → reason o.n (table_slots o) (shelf_entries o) (past called o cs) c ≡ none → (called (bytes_after called o cs) c).answer ≡ (effect (read (bytes_after called o cs)) c).answer
   effect-answer c w e = ap (λ (x : Reply). x.answer) (accepted_is (bytes_after called o cs) c (unrefused c w e))
 
   looks_right : (k b : ℕ) (out : List ℕ) → Within (Call.next k b out) → reason o.n (table_slots o) (shelf_entries o) (past called o cs) (Call.next k b out) ≡ none → (s : Scan) → scan_of (past called o cs) k ≡ some s
@@ -87,10 +87,20 @@ module _ (o : Opening) (cs : List Call) (ws : All Within cs) where
       effect-answer (Call.reading Reading.tally) tt no_refusal
       ∙ (λ i. (Answer.shown (Shown.counted (records_are v.keeps i) (entries_are v.keeps i))))
 
+  owes-right : (k : ℕ) → Within (Call.reading (Reading.owed k)) → reason o.n (table_slots o) (shelf_entries o) (past called o cs) (Call.reading (Reading.owed k)) ≡ none → (s : Scan) → scan_of (past called o cs) k ≡ some s
+      → (called (bytes_after called o cs) (Call.reading (Reading.owed k))).answer ≡ Answer.shown (Shown.owing (stillToCome (table_slots o) (past called o cs) s))
+  unfolding effect own_refusals
+  owes-right k w e s is =
+      let a = accepted (bytes_after called o cs) (Call.reading (Reading.owed k)) (unrefused (Call.reading (Reading.owed k)) w e) in
+      effect-answer (Call.reading (Reading.owed k)) w e
+      ∙ ap (λ (z : ℕ). Answer.shown (Shown.owing z)) (owed_is v.keeps (position_of (read (bytes_after called o cs)) k) s
+      (here v.keeps k a.others.0 s is))
+
 pub rule_of_next : RuleOfNext called lowest
 rule_of_next =
     record {
       looks = λ o cs ws k b out w e s is. looks_right o cs ws k b out w e s is;
       peeks = λ o cs ws k w e s is. peeks_right o cs ws k w e s is;
       tallies = λ o cs ws. tallies_right o cs ws;
+      owes = λ o cs ws k w e s is. owes-right o cs ws k w e s is;
     }
