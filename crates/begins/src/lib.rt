@@ -1,4 +1,6 @@
 // Begin, on a sound desk: a ticket is given, and its scan takes a position.
+#![tactic(auto)]
+
 ghost use Rattle.std.specs.Prelude.{◌≡◌, ◌+◌, ◌*◌, ◌≤◌, ◌<◌, length};
 ghost use Rattle.rules.specs.Answers.{begin_says};
 ghost use Rattle.rules.specs.Bytes.{u32_at};

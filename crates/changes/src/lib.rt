@@ -1,4 +1,6 @@
 // The calls that change records, on a sound desk and buffers of right lengths: insert, modify and delete.
+#![tactic(auto)]
+
 ghost use Rattle.std.specs.Prelude.{◌≡◌, ℕ, ◌+◌, ◌*◌, ◌-◌, ◌/◌, ◌≤◌, ◌<◌, length};
 ghost use Rattle.rules.specs.Answers.{change_says};
 ghost use Rattle.rules.specs.Promises.{Tells, TellsOverAnyShelf};

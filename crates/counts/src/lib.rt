@@ -1,4 +1,6 @@
 // Counts over the slots of a table or the entries of a shelf: those in use, and the versions that a scan waits for.
+#![tactic(auto)]
+
 ghost use Rattle.std.specs.Prelude.{◌≡◌, ◌+◌, ◌/◌, ◌≤◌, ◌<◌, length};
 ghost use Rattle.rules.specs.Calls.{used as usedOf, count};
 ghost use Rattle.rules.specs.Memory.{slot_at, slots_of};
@@ -50,7 +52,7 @@ fn waiting_of_four(slots: &[u8], i: usize, flip: u64, p: Position) -> u32
 }
 
 // Slots passed: the versions in them that a scan waits for, and the slot after the last.
-#[derive(Drop)]
+#[derive(Clone, Copy)]
 struct Run {
     waiting: u32,
     next: usize,

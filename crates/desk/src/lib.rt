@@ -1,4 +1,6 @@
 // What the desk says: N, the last ticket, its masks and its cards.
+#![tactic(auto)]
+
 ghost use Rattle.std.specs.Prelude.{◌≡◌, ◌<◌, length};
 ghost use Rattle.rules.specs.Bytes.{u32_at, u64_at};
 ghost use Rattle.rules.specs.Memory.{card_at, masks_of};

@@ -1,4 +1,6 @@
 // Next, on a sound desk and buffers of right lengths.
+#![tactic(auto)]
+
 ghost use Rattle.std.specs.Prelude.{◌≡◌, length};
 ghost use Rattle.rules.specs.Answers.{next_says};
 ghost use Rattle.rules.specs.Promises.{stood, stands, TellsOut};

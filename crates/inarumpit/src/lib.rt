@@ -1,4 +1,6 @@
 // The calls for the C host: numbers and byte buffers in, one 64-bit number back, answer + 256 × value.
+#![tactic(auto)]
+
 ghost use Rattle.rules.specs.Promises.{Returns, ReturnsOut};
 ghost use Rattle.rules.specs.Refusals.{Call, Change, Reading};
 

@@ -1,4 +1,6 @@
 // Numbers and slots in lent bytes: the one place where bytes are read and written.
+#![tactic(auto)]
+
 ghost use Rattle.std.specs.Prelude.{◌≡◌, ◌+◌, ◌*◌, ◌≤◌, ◌<◌, length, replicate};
 ghost use Rattle.rules.specs.Bytes.{field, u32_at, u64_at};
 ghost use Rattle.layout.specs.Puts.{put, put32, put64};

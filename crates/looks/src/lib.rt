@@ -1,3 +1,4 @@
 // The looks of a scan: where they end.
+#![tactic(auto)]
 
 pub mod walk;

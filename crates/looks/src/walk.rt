@@ -7,7 +7,7 @@ use masks::Masks;
 use rules::{Position, SlotNumber};
 
 // How a walk ended: a record in hand, the budget of looks spent, or at the end.
-#[derive(Drop)]
+#[derive(Clone, Copy)]
 pub enum Seen {
     Record,
     Spent,
@@ -15,7 +15,7 @@ pub enum Seen {
 }
 
 // A walk's answer, with the looks that it made and the budget left.
-#[derive(Drop)]
+#[derive(Clone, Copy)]
 pub struct Walked {
     pub seen: Seen,
     pub looks: u32,

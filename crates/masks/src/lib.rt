@@ -1,11 +1,13 @@
 // The three masks of the desk, by value: each move of document 000, section III-A, hands them back.
+#![tactic(auto)]
+
 ghost use Rattle.std.specs.Prelude.{◌≡◌, ◌<◌};
 ghost use Rattle.rules.specs.Masks.{fresh as freshMasks, walk_begun as begunMasks, walk_ended, ended as endedMasks, new_status, m_of, on, scan_mask};
 ghost use Rattle.masks.specs.Held.{held};
 
 use rules::Position;
 
-#[derive(Drop)]
+#[derive(Clone, Copy)]
 pub struct Masks {
     pub stable: u64,
     pub active: u64,

@@ -6,7 +6,7 @@ ghost use Rattle.numbers.specs.Busy.{busy_holds};
 use rules::{Card, Ticket};
 
 // What a desk holds its cards to: the last ticket given, T and R.
-#[derive(Drop)]
+#[derive(Clone, Copy)]
 pub struct Limits {
     pub last: Ticket,
     pub slots: usize,

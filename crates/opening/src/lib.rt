@@ -1,4 +1,6 @@
 // Open, on buffers of right lengths.
+#![tactic(auto)]
+
 ghost use Rattle.std.specs.Prelude.{◌≡◌, ◌/◌, ◌<◌, length};
 ghost use Rattle.rules.specs.Answers.{change_says};
 ghost use Rattle.rules.specs.Promises.{Tells};

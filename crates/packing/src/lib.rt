@@ -1,4 +1,6 @@
 // Each answer as one number: answer + 256 × value.
+#![tactic(auto)]
+
 ghost use Rattle.std.specs.Prelude.{◌≡◌};
 ghost use Rattle.rules.specs.Answers.{packed, change_says, begin_says, next_says, tally_says, owed_says};
 

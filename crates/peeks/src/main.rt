@@ -1,4 +1,6 @@
 // Peek against next with unbounded budget on copies, over seeded sequences of calls on small stores.
+#![tactic(auto)]
+
 mod compare;
 mod dice;
 mod hostile;

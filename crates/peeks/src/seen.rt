@@ -2,14 +2,14 @@
 use std::num::wrapping_add_u32;
 
 // Peek beside next with unbounded budget.
-#[derive(Drop)]
+#[derive(Clone, Copy)]
 pub enum Compared {
     InHand,
     Empty,
     Different,
 }
 
-#[derive(Drop)]
+#[derive(Clone, Copy)]
 pub struct Seen {
     calls: u32,
     in_hand: u32,

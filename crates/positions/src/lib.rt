@@ -1,4 +1,6 @@
 // Positions looked up on the desk: the one of a ticket, and the lowest that is free.
+#![tactic(auto)]
+
 ghost use Rattle.std.specs.Prelude.{◌≡◌, ◌≤◌, ◌<◌, [], length};
 ghost use Rattle.rules.specs.Bytes.{u32_at};
 ghost use Rattle.rules.specs.Memory.{store_of};

@@ -1,4 +1,6 @@
 // The calls that read only, on a sound desk and buffers of right lengths: peek, tally and owed.
+#![tactic(auto)]
+
 ghost use Rattle.std.specs.Prelude.{◌≡◌, ◌/◌, ◌<◌, length};
 ghost use Rattle.rules.specs.Answers.{tally_says, owed_says};
 ghost use Rattle.rules.specs.Promises.{Tells, TellsUnderAnyDesk};

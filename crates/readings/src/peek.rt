@@ -10,7 +10,7 @@ use looks::walk::Seen;
 use rules::{Position, SlotNumber, Ticket};
 
 // The slot or the entry of the version that next with unbounded budget would hand out.
-#[derive(Drop)]
+#[derive(Clone, Copy)]
 pub enum Found {
     InTable(SlotNumber),
     OnShelf(SlotNumber),

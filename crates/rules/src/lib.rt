@@ -1,9 +1,11 @@
 // The types that document 01 names, shared by every crate.
 // Record number, slot, position and ticket are numbers that mean four separate things: one tuple struct each.
 // What is done with the number itself stands in the struct's own methods.
+#![tactic(auto)]
+
 ghost use Rattle.std.specs.Prelude.{◌≡◌, ◌+◌, ◌*◌, ◌<◌, eqb, ltb, leb};
 
-#[derive(Drop)]
+#[derive(Clone, Copy)]
 pub struct RecordNumber(pub u32);
 
 impl RecordNumber {
@@ -29,7 +31,7 @@ impl RecordNumber {
 }
 
 // The number of a slot of the table or of an entry of the shelf.
-#[derive(Drop)]
+#[derive(Clone, Copy)]
 pub struct SlotNumber(pub usize);
 
 impl SlotNumber {
@@ -55,7 +57,7 @@ impl SlotNumber {
     }
 }
 
-#[derive(Drop)]
+#[derive(Clone, Copy)]
 pub struct Position(pub u32);
 
 impl Position {
@@ -81,7 +83,7 @@ impl Position {
     }
 }
 
-#[derive(Drop)]
+#[derive(Clone, Copy)]
 pub struct Ticket(pub u32);
 
 impl Ticket {
@@ -127,7 +129,7 @@ impl Ticket {
 }
 
 // The card of a position: ticket 0 means no scan.
-#[derive(Drop)]
+#[derive(Clone, Copy)]
 pub struct Card {
     pub ticket: Ticket,
     pub place: u32,
@@ -136,20 +138,20 @@ pub struct Card {
 }
 
 // What open, insert, modify and delete answer.
-#[derive(Drop)]
+#[derive(Clone, Copy)]
 pub enum ChangeAnswer {
     Done,
     Refused(u8),
 }
 
-#[derive(Drop)]
+#[derive(Clone, Copy)]
 pub enum BeginAnswer {
     Begun(Ticket),
     Refused(u8),
 }
 
 // What next answers. The looks made and the budget left come with it.
-#[derive(Drop)]
+#[derive(Clone, Copy)]
 pub enum NextAnswer {
     InHand { looks: u32, left: u32 },
     Paused { looks: u32 },
@@ -157,13 +159,13 @@ pub enum NextAnswer {
     Refused(u8),
 }
 
-#[derive(Drop)]
+#[derive(Clone, Copy)]
 pub enum TallyAnswer {
     Counted { records: u32, entries: u32 },
     Refused(u8),
 }
 
-#[derive(Drop)]
+#[derive(Clone, Copy)]
 pub enum OwedAnswer {
     Owing(u32),
     Refused(u8),

@@ -1,4 +1,6 @@
 // The scan of a ticket on a sound desk.
+#![tactic(auto)]
+
 ghost use Rattle.std.specs.Prelude.{[], ◌≡◌};
 ghost use Rattle.rules.specs.Memory.{store_of};
 ghost use Rattle.running.specs.Scan.{ReadyDesk, scan_of};

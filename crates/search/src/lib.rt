@@ -1,4 +1,6 @@
 // Search over the slots of a table or the entries of a shelf, four at a time.
+#![tactic(auto)]
+
 ghost use Rattle.std.specs.Prelude.{◌≡◌, ◌-◌, ◌/◌, ◌≤◌, ◌<◌, length};
 ghost use Rattle.rules.specs.Calls.{first};
 ghost use Rattle.rules.specs.Memory.{slots_of};

@@ -1,5 +1,7 @@
 // Document 01's own session and its edges, call by call, as standard input has them; what is written is compared with the
 // document's figures.
+#![tactic(auto)]
+
 mod show;
 mod step;
 mod text;

@@ -1,4 +1,6 @@
 // What next writes once its looks are made: masks and card, and the version that it hands out.
+#![tactic(auto)]
+
 ghost use Rattle.std.specs.Prelude.{◌≡◌, ◌+◌, ◌*◌, ◌-◌, ◌/◌, ◌<◌, length, set};
 ghost use Rattle.rules.specs.Calls.{slot_in};
 ghost use Rattle.rules.specs.Memory.{slots_of, masks_bytes, card_bytes};

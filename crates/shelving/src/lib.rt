@@ -1,4 +1,6 @@
 // The shelf before a change: the present version is kept for the scans that await it.
+#![tactic(auto)]
+
 ghost use Rattle.std.specs.Prelude.{◌≡◌, ◌/◌, ◌<◌, length};
 ghost use Rattle.masks.specs.Held.{held};
 ghost use Rattle.shelving.specs.Keeps.{goes_on, keeps};
@@ -7,7 +9,7 @@ use masks::Masks;
 use rules::SlotNumber;
 
 // What became of the present version of a slot before it is changed.
-#[derive(Drop)]
+#[derive(Clone, Copy)]
 pub enum Kept {
     // No running scan awaits it.
     Unawaited,

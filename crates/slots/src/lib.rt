@@ -1,4 +1,6 @@
 // The slots of a table or the entries of a shelf: how many there are, and what one of them holds.
+#![tactic(auto)]
+
 ghost use Rattle.std.specs.Prelude.{◌≡◌, ◌+◌, ◌*◌, ◌/◌, ◌<◌, length};
 ghost use Rattle.rules.specs.Bytes.{field, u32_at, u64_at};
 ghost use Rattle.rules.specs.Calls.{in_use};

@@ -1,4 +1,6 @@
 // Whether the desk is sound.
+#![tactic(auto)]
+
 ghost use Rattle.std.specs.Prelude.{◌≡◌, ◌+◌, ◌/◌, ◌<◌, length};
 ghost use Rattle.rules.specs.Memory.{store_of};
 ghost use Rattle.rules.specs.Sound.{sound};

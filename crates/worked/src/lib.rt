@@ -1,1 +1,2 @@
 // No code: document 01's worked sessions on lent bytes.
+#![tactic(auto)]
