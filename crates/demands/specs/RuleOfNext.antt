@@ -17,8 +17,8 @@ abbrev pub Peeks : List (Option Version) → Scan → ℕ → List ℕ → Type 
 Peeks l s end bytes = ((n : ℕ) × Passes l s n × Finds l s n bytes) ⊎ (Passes l s (end - s.looks) × (bytes ≡ []))
 
 -- what is still to come; past its table walk a scan is told the whole table too
-abbrev pub stillToCome : ℕ → History → Scan → ℕ
-stillToCome T h s = cond (ltb s.looks T) (length (waiting s)) (length h.live + length (waiting s))
+abbrev pub still_to_come : ℕ → History → Scan → ℕ
+still_to_come T h s = cond (ltb s.looks T) (length (waiting s)) (length h.live + length (waiting s))
 
 module _ (M : Machine) (o : Opening) (cs : List Call) where
   abbrev pub answer : Call → Answer
@@ -48,7 +48,7 @@ pub record RuleOfNext (M : Machine) (P : Placing) : Type 0 where
   pub owes : (o : Opening) (cs : List Call) → All Within cs → (t : ℕ) → Within (Call.reading (Reading.owed t))
       → Granted M o cs (Call.reading (Reading.owed t))
       → (s : Scan) → scan_of (past M o cs) t ≡ some s
-      → answer M o cs (Call.reading (Reading.owed t)) ≡ Answer.shown (Shown.owing (stillToCome (table_slots o) (past M o cs) s))
+      → answer M o cs (Call.reading (Reading.owed t)) ≡ Answer.shown (Shown.owing (still_to_come (table_slots o) (past M o cs) s))
 
 -- what next hands out: the record in hand, or nothing
 abbrev pub brought : Answer → List ℕ → List ℕ

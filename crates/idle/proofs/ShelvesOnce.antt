@@ -68,13 +68,13 @@ h₄ = history 2 (v₂ ∷ []) (v₁ ∷ []) 2 (scan 2 (v₂ ∷ []) [] 0 ∷ sc
 abbrev pub h₅ : History
 h₅ = history 3 (v₃ ∷ []) (v₂ ∷ v₁ ∷ []) 2 (scan 2 (v₂ ∷ []) [] 0 ∷ scan 1 (v₁ ∷ []) [] 0 ∷ [])
 
-h₄-needs : needed h₄ ≡ v₁ ∷ []
+h₄_needs : needed h₄ ≡ v₁ ∷ []
 unfolding awaits awaited
-h₄-needs = refl
+h₄_needs = refl
 
-h₅-needs : needed h₅ ≡ v₂ ∷ v₁ ∷ []
+h₅_needs : needed h₅ ≡ v₂ ∷ v₁ ∷ []
 unfolding awaits awaited
-h₅-needs = refl
+h₅_needs = refl
 
 -- a machine that accepts the five calls
 pub record AcceptsBoth (M : Machine) : Type 0 where
@@ -97,7 +97,7 @@ module _ (M : Machine) (a : AcceptsBoth M) where
 module _ (M : Machine) (a : AcceptsBoth M) (d : Demand3 M) where
   -- after the second begin one entry is in use
   pub four_held : Holds (bytes_after M pair (Call.begin ∷ first)).shelf (v₁ ∷ [])
-  four_held = subst (λ (l : List Version). Holds (bytes_after M pair (Call.begin ∷ first)).shelf l) (ap needed (four_told M a) ∙ h₄-needs) (d.shelf pair a.opened (Call.begin ∷ first) (tt, first-within))
+  four_held = subst (λ (l : List Version). Holds (bytes_after M pair (Call.begin ∷ first)).shelf l) (ap needed (four_told M a) ∙ h₄_needs) (d.shelf pair a.opened (Call.begin ∷ first) (tt, first-within))
 
   pub one_in_use : used (slots_of (bytes_after M pair (Call.begin ∷ first)).shelf) ≡ 1
   one_in_use = in_use_is (bytes_after M pair (Call.begin ∷ first)).shelf (v₁ ∷ []) four_held one_number
@@ -114,7 +114,7 @@ module _ (M : Machine) (a : AcceptsBoth M) (d : Demand3 M) where
   pub two_in_use : used (slots_of (bytes_after M pair second).shelf) ≡ 2
   two_in_use =
       in_use_is (bytes_after M pair second).shelf (v₂ ∷ v₁ ∷ [])
-      (subst (λ (l : List Version). Holds (bytes_after M pair second).shelf l) (ap needed (five_told M a) ∙ h₅-needs) (d.shelf pair a.opened second second_within)) two_numbers
+      (subst (λ (l : List Version). Holds (bytes_after M pair second).shelf l) (ap needed (five_told M a) ∙ h₅_needs) (d.shelf pair a.opened second second_within)) two_numbers
 
   pub shelves_once_caught : ShelvesOnce M → ⊥
   unfolding bytes_after

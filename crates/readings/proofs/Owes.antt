@@ -18,9 +18,9 @@ use Rattle.running.specs.Scan.{scan_of}
 use Rattle.running.proofs.Scan.{scan-none, scan-one, scan_at}
 
 module _ (d t s : List ℕ) where
-  owed-count : (p : ℕ) {st : ℕ} → st ≡ u64_at d 16 → count_of (waiting st p) (slots_of t) + count_of (waiting 0 p) (slots_of s) ≡ owed_by (store_of d t s) p
+  owed_count : (p : ℕ) {st : ℕ} → st ≡ u64_at d 16 → count_of (waiting st p) (slots_of t) + count_of (waiting 0 p) (slots_of s) ≡ owed_by (store_of d t s) p
   unfolding store_of desk_of
-  owed-count p {st} e =
+  owed_count p {st} e =
       rw (
         e,
         count_same (waiting (u64_at d 16) p) (λ x. in_use x && eqb (bit x.mask p) (bit (u64_at d 16) p)) (λ x. rw (equal_is_off (u64_at d 16) x.mask p) refl) (slots_of t),
@@ -33,4 +33,4 @@ module _ (d t s : List ℕ) where
 
     pub owes : p < 64 → {st a b : ℕ} → st ≡ u64_at d 16 → a ≡ count_of (waiting st p) (slots_of t) → b ≡ count_of (waiting 0 p) (slots_of s)
         → told (Answer.shown (Shown.owing (a + b))) (store_of d t s) [] ≡ step (store_of d t s) (Call.reading (Reading.owed k))
-    owes h e ea eb = rw (ea, eb, owed-count p e, ← (scan_at d t s k ep h)) (owed-goes (store_of d t s) k (scan-one d t s k ep h))
+    owes h e ea eb = rw (ea, eb, owed_count p e, ← (scan_at d t s k ep h)) (owed-goes (store_of d t s) k (scan-one d t s k ep h))

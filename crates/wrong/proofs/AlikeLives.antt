@@ -69,21 +69,21 @@ unfolding called_by replied_by replied
 clear_refused l c k e = rw e refl
 
 -- the answers of two that do likewise tell the same
-likewise-heard : (h : History) (c : Call) (x y : Told) → Likewise c x y → heard h c y.answer y.out ≡ heard h c x.answer x.out
+likewise_heard : (h : History) (c : Call) (x y : Told) → Likewise c x y → heard h c y.answer y.out ≡ heard h c x.answer x.out
 unfolding heard
-likewise-heard h (Call.opening n) x y w = refl
-likewise-heard h (Call.change c) x y w = λ i. heard h (Call.change c) (w.0 i) (w.1 i)
-likewise-heard h Call.begin x y w = λ i. heard h Call.begin (w.0 i) (w.1 i)
-likewise-heard h (Call.next t b o) x y w = λ i. heard h (Call.next t b o) (w.0 i) (w.1 i)
-likewise-heard h (Call.reading q) x y w = refl
+likewise_heard h (Call.opening n) x y w = refl
+likewise_heard h (Call.change c) x y w = λ i. heard h (Call.change c) (w.0 i) (w.1 i)
+likewise_heard h Call.begin x y w = λ i. heard h Call.begin (w.0 i) (w.1 i)
+likewise_heard h (Call.next t b o) x y w = λ i. heard h (Call.next t b o) (w.0 i) (w.1 i)
+likewise_heard h (Call.reading q) x y w = refl
 
-likewise-fulfils : (t r : ℕ) (h : History) (c : Call) (x y : Told) → Likewise c x y → Fulfils t r h c x.answer x.out → Fulfils t r h c y.answer y.out
+likewise_fulfils : (t r : ℕ) (h : History) (c : Call) (x y : Told) → Likewise c x y → Fulfils t r h c x.answer x.out → Fulfils t r h c y.answer y.out
 unfolding Fulfils
-likewise-fulfils t r h (Call.opening n) x y w f = w.0 ∙ f
-likewise-fulfils t r h (Call.change c) x y w f = w.0 ∙ f
-likewise-fulfils t r h Call.begin x y w f = w.0 ∙ f
-likewise-fulfils t r h (Call.next k b o) x y w f = rw (w.0, w.1) f
-likewise-fulfils t r h (Call.reading q) x y w f = w
+likewise_fulfils t r h (Call.opening n) x y w f = w.0 ∙ f
+likewise_fulfils t r h (Call.change c) x y w f = w.0 ∙ f
+likewise_fulfils t r h Call.begin x y w f = w.0 ∙ f
+likewise_fulfils t r h (Call.next k b o) x y w f = rw (w.0, w.1) f
+likewise_fulfils t r h (Call.reading q) x y w f = w
 
 module _ (n t r : ℕ) (l k : Lent) (h : History) (p : Places) (v : Living n t r l h p) (w : Twins l k) (c : Call) (in_life_lem : Within c) where
   same-refusals : first_of (refusals k c) ≡ first_of (refusals l c)
@@ -115,8 +115,8 @@ module _ (n t r : ℕ) (l k : Lent) (h : History) (p : Places) (v : Living n t r
       (record {
         twins = twins_written (effect (read l) c).after (effect_by clearing (other (read l) z.table) c).after f x.after;
         answers = subst (λ (o : Option ℕ). Answers t r h o c (effect_by clearing (other (read l) z.table) c).answer (effect_by clearing (other (read l) z.table) c).out) (sym e ∙ refusals_are v c in_life_lem)
-            (likewise-fulfils t r h c (effect (read l) c) (effect_by clearing (other (read l) z.table) c) x.says g);
-        told = likewise-heard h c (effect (read l) c) (effect_by clearing (other (read l) z.table) c) x.says;
+            (likewise_fulfils t r h c (effect (read l) c) (effect_by clearing (other (read l) z.table) c) x.says g);
+        told = likewise_heard h c (effect (read l) c) (effect_by clearing (other (read l) z.table) c) x.says;
       })
 
   both : Both (called l c) (clear_at_begin k c)

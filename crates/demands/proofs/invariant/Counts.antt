@@ -13,7 +13,7 @@ use borrow.Author.Tests.{eqb-false, eq-eqb, ne_eqb}
 use Rattle.demands.specs.History.{Version, Scan, awaits, awaited, needed, waiting}
 use Rattle.demands.specs.Lists.{those, standing}
 use Rattle.demands.specs.Masks.{one_if}
-use Rattle.demands.specs.RuleOfNext.{stillToCome}
+use Rattle.demands.specs.RuleOfNext.{still_to_come}
 use Rattle.rules.specs.Calls.{slot_in, in_use, count, used, owed_by}
 use Rattle.rules.specs.Masks.{bit, off}
 use Rattle.rules.specs.Memory.{Slot, T}
@@ -110,8 +110,8 @@ module _ {now : Moment} (q : Inv now) where
     abbrev on_shelf : Slot → Bool
     on_shelf x = in_use x && off x.mask p
 
-    in_use : (x : Slot) → 1 ≤ x.number → (b : Bool) → in_use x && b ≡ b
-    in_use x k b = rw (ne_eqb x.number 0 (λ z. omega arith)) refl
+    in_use_lem : (x : Slot) → 1 ≤ x.number → (b : Bool) → in_use x && b ≡ b
+    in_use_lem x k b = rw (ne_eqb x.number 0 (λ z. omega arith)) refl
 
     not_in_use : (x : Slot) → x.number ≡ 0 → (b : Bool) → in_use x && b ≡ false
     not_in_use x e b = rw e refl
@@ -128,7 +128,7 @@ module _ {now : Moment} (q : Inv now) where
     table_agrees i none e = not_in_use (slot_in now.store.table i) (subst (NumberOK (slot_in now.store.table i)) e (table_numbers q i)) (eqb (bit (slot_in now.store.table i).mask p) (bit now.store.desk.masks.stable p))
     table_agrees i (some v) e =
         let w = slot_of q i v e in
-        in_use (slot_in now.store.table i) w.some (eqb (bit (slot_in now.store.table i).mask p) (bit now.store.desk.masks.stable p))
+        in_use_lem (slot_in now.store.table i) w.some (eqb (bit (slot_in now.store.table i).mask p) (bit now.store.desk.masks.stable p))
         ∙ equal_bits (bit (slot_in now.store.table i).mask p) (bit now.store.desk.masks.stable p) (bit_low (slot_in now.store.table i).mask p) (bit_low now.store.desk.masks.stable p) (ltb s.looks now.t && not (awaits s v))
         (sym (bit-xor now.store.desk.masks.stable (slot_in now.store.table i).mask p) ∙ w.bits p hp ∙ ap (λ (b : Bool). one_if (b && not (aw now p v))) local_is ∙ ap (λ (b : Bool). one_if (ltb s.looks now.t && not b)) (aw_at now p s here v))
 
@@ -136,7 +136,7 @@ module _ {now : Moment} (q : Inv now) where
     shelf_agrees i none e = not_in_use (slot_in now.store.shelf i) (subst (NumberOK (slot_in now.store.shelf i)) e (shelf_numbers q i)) (off (slot_in now.store.shelf i).mask p)
     shelf_agrees i (some v) e =
         let w = entry_of q i v e in
-        in_use (slot_in now.store.shelf i) w.some (off (slot_in now.store.shelf i).mask p) ∙ ap (λ (x : ℕ). eqb x 0) (w.bits p hp ∙ ap (λ (b : Bool). one_if (not b)) (aw_at now p s here v)) ∙ go (awaits s v)
+        in_use_lem (slot_in now.store.shelf i) w.some (off (slot_in now.store.shelf i).mask p) ∙ ap (λ (x : ℕ). eqb x 0) (w.bits p hp ∙ ap (λ (b : Bool). one_if (not b)) (aw_at now p s here v)) ∙ go (awaits s v)
       where
         go : (b : Bool) → eqb (one_if (not b)) 0 ≡ b
         go true = refl
@@ -181,7 +181,7 @@ module _ {now : Moment} (q : Inv now) where
         (λ v i. let w = live_at q v i in
         sym (aw_at now p s here v) ∙ beyond q w.0 v w.1 p hp (omega (arith, bit_low now.store.desk.masks.local p, eqb-false (bit now.store.desk.masks.local p) 0 (local_is ∙ e)))))
 
-    pub owed_is : owed_by now.store p ≡ stillToCome now.t now.history s
+    pub owed_is : owed_by now.store p ≡ still_to_come now.t now.history s
     owed_is = rw (table-count, shelf-count) (go (ltb s.looks now.t) refl)
       where
         go : (b : Bool) → ltb s.looks now.t ≡ b → length (those (λ v. not (b && not (awaits s v))) now.history.live) + length (those (awaits s) now.history.left) ≡ cond b (length (waiting s)) (length now.history.live + length (waiting s))

@@ -16,14 +16,14 @@ use Rattle.rules.specs.Memory.{Lent}
 use Rattle.rules.specs.Refusals.{Call, first_of, refusals, called}
 use Rattle.demands.proofs.page.DemandOne.{demand_1}
 use Rattle.demands.proofs.page.DemandTwo.{demand_2}
-use Rattle.demands.proofs.machines.Refused.{refused_as, refused_iff}
+use Rattle.demands.proofs.machines.Refused.{refused_as_lem, refused_iff}
 use Rattle.demands.proofs.page.Rising.{first-lowest, refusals_rise, reasons_rise}
 
 -- ---- on any lent bytes
 
 module _ (M : Machine) (d : Demand1 M) (l : Lent) (c : Call) (x : exported c ≡ true) (a : LentBytes l) (w : Well c) (k : ℕ) where
   answered : first_of (refusals l c) ≡ some k → (M l c).answer ≡ Answer.refused k
-  answered e = (d.refuses l c k a w e).0 ∙ refused_as c x k
+  answered e = (d.refuses l c k a w e).0 ∙ refused_as_lem c x k
 
   first_answered : (M l c).answer ≡ Answer.refused k → first_of (refusals l c) ≡ some k
   first_answered e = go (first_of (refusals l c)) refl
@@ -31,7 +31,7 @@ module _ (M : Machine) (d : Demand1 M) (l : Lent) (c : Call) (x : exported c ≡
       go : (y : Option ℕ) → first_of (refusals l c) ≡ y → first_of (refusals l c) ≡ some k
       go none f = absurd (d.accepts l c k a w f e)
       go (some j) f =
-          let z : Answer.refused j ≡ Answer.refused k = sym ((d.refuses l c j a w f).0 ∙ refused_as c x j) ∙ e in
+          let z : Answer.refused j ≡ Answer.refused k = sym ((d.refuses l c j a w f).0 ∙ refused_as_lem c x j) ∙ e in
           let y : j ≡ k = cc in
           f ∙ ap some y
 

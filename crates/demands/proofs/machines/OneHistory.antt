@@ -15,7 +15,7 @@ use Rattle.demands.specs.Lives.{Opening, table_slots, shelf_entries, bytes_after
 use Rattle.demands.specs.Machine.{Machine, Within}
 use Rattle.demands.specs.Placement.{Choice, Placing, Places, sit, place_of, shelve, moves, all_told, placed, placed_from, all_told_from, unplaced, places_after, row, LooksRight}
 use Rattle.demands.specs.Reasons.{reason, reasons}
-use Rattle.demands.specs.RuleOfNext.{Peeks, stillToCome, RuleOfNext}
+use Rattle.demands.specs.RuleOfNext.{Peeks, still_to_come, RuleOfNext}
 use Rattle.rules.specs.Answers.{Answer, Shown, number}
 use Rattle.rules.specs.Refusals.{Call, Change, Reading, first_of, refused_as}
 use Rattle.stores.proofs.FirstOf.{Untrue, holds-first, no_refusal, none-holds, skip_first}
@@ -85,7 +85,7 @@ module _ (N T R : ℕ) (h : History) (p : Places) (i : Sized T R p) where
   ReadRight (Call.next t b o) a out = (s : Scan) → scan_of h t ≡ some s → LooksRight (row p) s out a
   ReadRight (Call.reading (Reading.peek t)) a out = (s : Scan) → scan_of h t ≡ some s → (part : List ℕ) × (a ≡ Answer.shown (Shown.part part)) × Peeks (row p) s (T + R) part
   ReadRight (Call.reading Reading.tally) a out = a ≡ Answer.shown (Shown.counted (length h.live) (length (needed h)))
-  ReadRight (Call.reading (Reading.owed t)) a out = (s : Scan) → scan_of h t ≡ some s → a ≡ Answer.shown (Shown.owing (stillToCome T h s))
+  ReadRight (Call.reading (Reading.owed t)) a out = (s : Scan) → scan_of h t ≡ some s → a ≡ Answer.shown (Shown.owing (still_to_come T h s))
 
   pub record Right (c : Call) (a : Answer) (out : List ℕ) : Type 0 where
     pub answers : Answers T R h (reason N T R h c) c a out

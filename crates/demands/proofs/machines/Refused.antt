@@ -30,15 +30,15 @@ use Rattle.demands.proofs.history.Past.{Past, ever, change_of, awaited-began}
 
 -- ---- refused exactly for the reason
 
-pub refused_as : (c : Call) → exported c ≡ true → (k : ℕ) → refused_as c k ≡ Answer.refused k
+pub refused_as_lem : (c : Call) → exported c ≡ true → (k : ℕ) → refused_as c k ≡ Answer.refused k
 unfolding refused_as
-refused_as (Call.opening n) w k = refl
-refused_as (Call.change c) w k = refl
-refused_as Call.begin w k = refl
-refused_as (Call.next t b o) w k = refl
-refused_as (Call.reading (Reading.peek t)) w k = absurd (false≢true w)
-refused_as (Call.reading Reading.tally) w k = refl
-refused_as (Call.reading (Reading.owed t)) w k = refl
+refused_as_lem (Call.opening n) w k = refl
+refused_as_lem (Call.change c) w k = refl
+refused_as_lem Call.begin w k = refl
+refused_as_lem (Call.next t b o) w k = refl
+refused_as_lem (Call.reading (Reading.peek t)) w k = absurd (false≢true w)
+refused_as_lem (Call.reading Reading.tally) w k = refl
+refused_as_lem (Call.reading (Reading.owed t)) w k = refl
 
 -- what fulfils a call is no refusal
 fulfilled : (T R : ℕ) (h : History) (c : Call) (a : Answer) (out : List ℕ) → Fulfils T R h c a out → (k : ℕ) → a ≡ Answer.refused k → ⊥
@@ -68,10 +68,10 @@ module _ (M : Machine) (d : Demand2 M) (o : Opening) (cs : List Call) (ws : All 
         where
           go : (x : Option ℕ) → why ≡ x → why ≡ some k
           go none f = absurd (fulfilled (table_slots o) (shelf_entries o) (past M o cs) c (M (bytes_after M o cs) c).answer (M (bytes_after M o cs) c).out (by none f) k e)
-          go (some j) f = let z : Answer.refused j ≡ Answer.refused k = sym (refused_as c num j) ∙ sym (by (some j) f) ∙ e in let y : j ≡ k = cc in f ∙ ap some y
+          go (some j) f = let z : Answer.refused j ≡ Answer.refused k = sym (refused_as_lem c num j) ∙ sym (by (some j) f) ∙ e in let y : j ≡ k = cc in f ∙ ap some y
 
       from : why ≡ some k → (M (bytes_after M o cs) c).answer ≡ Answer.refused k
-      from e = by (some k) e ∙ refused_as c num k
+      from e = by (some k) e ∙ refused_as_lem c num k
 
 -- ---- room
 

@@ -14,7 +14,7 @@ use Rattle.demands.specs.Lives.{Opening, table_slots, shelf_entries, bytes_after
 use Rattle.demands.specs.Machine.{Within}
 use Rattle.demands.specs.Placement.{lowest, places_after, row, LooksRight}
 use Rattle.demands.specs.Reasons.{reason, reasons}
-use Rattle.demands.specs.RuleOfNext.{Peeks, stillToCome, RuleOfNext}
+use Rattle.demands.specs.RuleOfNext.{Peeks, still_to_come, RuleOfNext}
 use Rattle.rules.specs.Answers.{Answer, Draw, Shown, number}
 use Rattle.rules.specs.Calls.{position_of}
 use Rattle.rules.specs.Memory.{T, R, read}
@@ -87,10 +87,10 @@ module _ (o : Opening) (cs : List Call) (ws : All Within cs) where
       effect-answer (Call.reading Reading.tally) tt no_refusal
       ∙ (λ i. (Answer.shown (Shown.counted (records_are v.keeps i) (entries_are v.keeps i))))
 
-  owes-right : (k : ℕ) → Within (Call.reading (Reading.owed k)) → reason o.n (table_slots o) (shelf_entries o) (past called o cs) (Call.reading (Reading.owed k)) ≡ none → (s : Scan) → scan_of (past called o cs) k ≡ some s
-      → (called (bytes_after called o cs) (Call.reading (Reading.owed k))).answer ≡ Answer.shown (Shown.owing (stillToCome (table_slots o) (past called o cs) s))
+  owes_right : (k : ℕ) → Within (Call.reading (Reading.owed k)) → reason o.n (table_slots o) (shelf_entries o) (past called o cs) (Call.reading (Reading.owed k)) ≡ none → (s : Scan) → scan_of (past called o cs) k ≡ some s
+      → (called (bytes_after called o cs) (Call.reading (Reading.owed k))).answer ≡ Answer.shown (Shown.owing (still_to_come (table_slots o) (past called o cs) s))
   unfolding effect own_refusals
-  owes-right k w e s is =
+  owes_right k w e s is =
       let a = accepted (bytes_after called o cs) (Call.reading (Reading.owed k)) (unrefused (Call.reading (Reading.owed k)) w e) in
       effect-answer (Call.reading (Reading.owed k)) w e
       ∙ ap (λ (z : ℕ). Answer.shown (Shown.owing z)) (owed_is v.keeps (position_of (read (bytes_after called o cs)) k) s
@@ -102,5 +102,5 @@ rule_of_next =
       looks = λ o cs ws k b out w e s is. looks_right o cs ws k b out w e s is;
       peeks = λ o cs ws k w e s is. peeks_right o cs ws k w e s is;
       tallies = λ o cs ws. tallies_right o cs ws;
-      owes = λ o cs ws k w e s is. owes-right o cs ws k w e s is;
+      owes = λ o cs ws k w e s is. owes_right o cs ws k w e s is;
     }
