@@ -36,6 +36,10 @@ handed_it : (t : ℕ) (v : Version) (u : List ℕ) (a : Answer) → Goes 1 2 (sc
 handed_it t v u (Answer.drew (Draw.in_hand x y)) g = g.0.3 ∙ ap reads (Memᴰ.eq_of_singleton g.0.1)
 handed_it t v u (Answer.drew (Draw.paused x)) g = let a : x ≡ 3 = g.0 in let b : 0 + x < 1 + 2 = g.1 in absurd (omega arith)
 handed_it t v u (Answer.drew (Draw.finished x y z)) g = let e : ◌≡◌ {A = ℕ} 0 1 = perm_length [] (map reads (v ∷ [])) g.0 in absurd (omega arith)
+handed_it t v u Answer.done g = elim g [ ]
+handed_it t v u (Answer.begun _) g = elim g [ ]
+handed_it t v u (Answer.shown _) g = elim g [ ]
+handed_it t v u (Answer.refused _) g = elim g [ ]
 
 module _ (M : Machine) (d : Demand2 M) where
   told₅ : past M pair second ≡ h₅

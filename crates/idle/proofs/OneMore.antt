@@ -26,3 +26,7 @@ pub pauses : (r : ℕ) (u : List ℕ) (a : Answer) → Goes 1 (suc r) (scan 1 []
 pauses r u (Answer.drew (Draw.in_hand x y)) g = absurd (Memᴰ.not-nil g.0.1)
 pauses r u (Answer.drew (Draw.paused x)) g = ap (λ (n : ℕ). Answer.drew (Draw.paused n)) g.0
 pauses r u (Answer.drew (Draw.finished x y z)) g = let e : x + y ≡ 1 = g.2 in let f : 0 + x ≡ 1 + suc r = g.3 in absurd (omega arith)
+pauses r u Answer.done g = elim g [ ]
+pauses r u (Answer.begun _) g = elim g [ ]
+pauses r u (Answer.shown _) g = elim g [ ]
+pauses r u (Answer.refused _) g = elim g [ ]

@@ -88,14 +88,14 @@ record Left (l m : Lent) : Type 0 where
   kept : Kept l m
 
 -- the entries are in use, and those of record k are among them
-module _ (entries : ℕ → Slot → Bool) (in_use : (k : ℕ) (s : Slot) → entries k s ≡ true → in_use s ≡ true) (own : (k : ℕ) (s : Slot) → 1 ≤ k → s.number ≡ k → entries k s ≡ true) where
+module _ (entries : ℕ → Slot → Bool) (used_entries : (k : ℕ) (s : Slot) → entries k s ≡ true → in_use s ≡ true) (own : (k : ℕ) (s : Slot) → 1 ≤ k → s.number ≡ k → entries k s ≡ true) where
   -- ---- any other call is document 01's
 
   same-change : (S : Store) (d : Change) → (Changes (Call.change d) × (1 ≤ used S.shelf) → ⊥) → shelves_first entries S d ≡ changes_to S d
   unfolding shelves_first
   same-change S (Change.insert k b) q = refl
-  same-change S (Change.modify k b) q = while_none (count (entries k) S.shelf) _ _ (λ h. q (tt, omega (arith, h, fewer (entries k) in_use (in_use k) S.shelf)))
-  same-change S (Change.delete k) q = while_none (count (entries k) S.shelf) _ _ (λ h. q (tt, omega (arith, h, fewer (entries k) in_use (in_use k) S.shelf)))
+  same-change S (Change.modify k b) q = while_none (count (entries k) S.shelf) _ _ (λ h. q (tt, omega (arith, h, fewer (entries k) in_use (used_entries k) S.shelf)))
+  same-change S (Change.delete k) q = while_none (count (entries k) S.shelf) _ _ (λ h. q (tt, omega (arith, h, fewer (entries k) in_use (used_entries k) S.shelf)))
 
   same : (l : Lent) (c : Call) → (Later l c → ⊥) → first_change_only entries l c ≡ called l c
   unfolding called_by called store_of
@@ -130,7 +130,7 @@ module _ (entries : ℕ → Slot → Bool) (in_use : (k : ℕ) (s : Slot) → en
     leaves z = go (first_of (refusals l (change k b))) refl
       where
         some_own : 1 ≤ shut
-        some_own = counted (entries k) (slots_of l.shelf) z.1.0 (λ e. false≢true (in_use k free e)) (own k (slot_in (slots_of l.shelf) z.1.0) z.0 z.1.1)
+        some_own = counted (entries k) (slots_of l.shelf) z.1.0 (λ e. false≢true (used_entries k free e)) (own k (slot_in (slots_of l.shelf) z.1.0) z.0 z.1.1)
 
         go : (o : Option ℕ) → first_of (refusals l (change k b)) ≡ o → (replied_by (shelving entries) o l (change k b)).after.shelf ≡ l.shelf
         go none e = ap (λ (X : Store). (written X).shelf) (effect_is ∙ once_some shut _ _ some_own) ∙ (left (accepted l (change k b) e)).shelf

@@ -81,6 +81,10 @@ finishes u (Answer.drew (Draw.finished x y z)) g =
     let p : x ≡ 2 = omega arith in
     let q : y ≡ 0 = omega arith in
     λ i. Answer.drew (Draw.finished (p i) (q i) (g.1 i))
+finishes u Answer.done g = elim g [ ]
+finishes u (Answer.begun _) g = elim g [ ]
+finishes u (Answer.shown _) g = elim g [ ]
+finishes u (Answer.refused _) g = elim g [ ]
 
 -- what the calls tell
 abbrev h₁ : History
