@@ -1,0 +1,7 @@
+use mathlib.Core.Path.{refl}
+use Rattle.rules.specs.Masks.{bit}
+use Rattle.masks.proofs.has_bit.Goals as goal
+
+pub returns : goal.returns
+unfolding bit
+returns c = rw c.bit.ensures refl

@@ -1,0 +1,10 @@
+use native.Mathlib.Nat.{one-mul, mod-eq_of_lt}
+use lib.Pow.{pow-lt}
+use Prim.Native.Nat.{◌^◌}
+use Rattle.rules.specs.Masks.{scan_mask}
+use Rattle.masks.proofs.scan_mask.Goals as goal
+
+pub returns : goal.returns
+unfolding scan_mask
+returns c =
+    rw (c.bit.ensures, one-mul (2 ^ c.args.p.0)) (mod-eq_of_lt (pow-lt c.requires))
