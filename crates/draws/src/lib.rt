@@ -3,7 +3,8 @@
 
 ghost use Rattle.std.specs.Prelude.{◌≡◌, length};
 ghost use Rattle.rules.specs.Answers.{next_says};
-ghost use Rattle.rules.specs.Promises.{stood, stands, TellsOut};
+ghost use Rattle.rules.specs.Memory.{store_of};
+ghost use Rattle.rules.specs.Promises.{TellsOut, changed};
 ghost use Rattle.rules.specs.Next.{told, walk};
 ghost use Rattle.rules.specs.Refusals.{Call};
 ghost use Rattle.running.specs.Scan.{Ready, Runs};
@@ -20,7 +21,7 @@ pub fn next(
     out: &mut [u8],
 ) -> NextAnswer
     requires { Ready desk.old table.old shelf.old × (length out.old ≡ 56) }
-    ensures { TellsOut (next_says result) desk table shelf out (Call.next ticket.0 budget out.old) }
+    ensures { TellsOut (next_says result) (changed desk.old desk.new) (changed table.old table.new) (changed shelf.old shelf.new) (changed out.old out.new) (Call.next ticket.0 budget out.old) }
 {
     let p = running::scan_of(desk, ticket);
     if p.below(64) {
@@ -39,7 +40,7 @@ fn go_on(
     out: &mut [u8],
 ) -> NextAnswer
     requires { Ready desk.old table.old shelf.old × (length out.old ≡ 56) × Runs desk.old p.0 }
-    ensures { told (next_says result) (stands desk table shelf) out.new ≡ walk (stood desk table shelf) p.0 budget 0 out.old }
+    ensures { told (next_says result) (store_of desk.new table.new shelf.new) out.new ≡ walk (store_of desk.old table.old shelf.old) p.0 budget 0 out.old }
 {
     let card = desk::card_at(desk, p);
     let m = desk::masks_at(desk);

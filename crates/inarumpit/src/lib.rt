@@ -1,7 +1,7 @@
 // The calls for the C host: numbers and byte buffers in, one 64-bit number back, answer + 256 × value.
 #![tactic(auto)]
 
-ghost use Rattle.rules.specs.Promises.{Returns, ReturnsOut};
+ghost use Rattle.rules.specs.Promises.{Returns, ReturnsOut, changed, kept};
 ghost use Rattle.rules.specs.Refusals.{Call, Change, Reading};
 
 use rules::{RecordNumber, Ticket};
@@ -10,7 +10,7 @@ pub mod calls;
 
 #[unsafe(no_mangle)]
 pub extern "C" fn inarumpit_open(desk: &mut [u8], table: &mut [u8], shelf: &mut [u8], n: u32) -> u64
-    ensures { Returns result desk table shelf (Call.opening n) }
+    ensures { Returns result (changed desk.old desk.new) (changed table.old table.new) (changed shelf.old shelf.new) (Call.opening n) }
 {
     packing::change(calls::open(desk, table, shelf, n))
 }
@@ -23,7 +23,7 @@ pub extern "C" fn inarumpit_insert(
     number: u32,
     body: &[u8],
 ) -> u64
-    ensures { Returns result desk table shelf (Call.change (Change.insert number body.now)) }
+    ensures { Returns result (kept desk.now) (changed table.old table.new) (kept shelf.now) (Call.change (Change.insert number body.now)) }
 {
     packing::change(calls::insert(desk, table, shelf, RecordNumber(number), body))
 }
@@ -36,7 +36,7 @@ pub extern "C" fn inarumpit_modify(
     number: u32,
     body: &[u8],
 ) -> u64
-    ensures { Returns result desk table shelf (Call.change (Change.modify number body.now)) }
+    ensures { Returns result (kept desk.now) (changed table.old table.new) (changed shelf.old shelf.new) (Call.change (Change.modify number body.now)) }
 {
     packing::change(calls::modify(desk, table, shelf, RecordNumber(number), body))
 }
@@ -48,14 +48,14 @@ pub extern "C" fn inarumpit_delete(
     shelf: &mut [u8],
     number: u32,
 ) -> u64
-    ensures { Returns result desk table shelf (Call.change (Change.delete number)) }
+    ensures { Returns result (kept desk.now) (changed table.old table.new) (changed shelf.old shelf.new) (Call.change (Change.delete number)) }
 {
     packing::change(calls::delete(desk, table, shelf, RecordNumber(number)))
 }
 
 #[unsafe(no_mangle)]
 pub extern "C" fn inarumpit_begin(desk: &mut [u8], table: &[u8], shelf: &[u8]) -> u64
-    ensures { Returns result desk table shelf Call.begin }
+    ensures { Returns result (changed desk.old desk.new) (kept table.now) (kept shelf.now) Call.begin }
 {
     packing::begin(calls::begin(desk, table, shelf))
 }
@@ -69,21 +69,21 @@ pub extern "C" fn inarumpit_next(
     budget: u32,
     out: &mut [u8],
 ) -> u64
-    ensures { ReturnsOut result desk table shelf out (Call.next ticket budget out.old) }
+    ensures { ReturnsOut result (changed desk.old desk.new) (changed table.old table.new) (changed shelf.old shelf.new) (changed out.old out.new) (Call.next ticket budget out.old) }
 {
     packing::next(calls::next(desk, table, shelf, Ticket(ticket), budget, out))
 }
 
 #[unsafe(no_mangle)]
 pub extern "C" fn inarumpit_tally(desk: &[u8], table: &[u8], shelf: &[u8]) -> u64
-    ensures { Returns result desk table shelf (Call.reading Reading.tally) }
+    ensures { Returns result (kept desk.now) (kept table.now) (kept shelf.now) (Call.reading Reading.tally) }
 {
     packing::tally(calls::tally(desk, table, shelf))
 }
 
 #[unsafe(no_mangle)]
 pub extern "C" fn inarumpit_owed(desk: &[u8], table: &[u8], shelf: &[u8], ticket: u32) -> u64
-    ensures { Returns result desk table shelf (Call.reading (Reading.owed ticket)) }
+    ensures { Returns result (kept desk.now) (kept table.now) (kept shelf.now) (Call.reading (Reading.owed ticket)) }
 {
     packing::owed(calls::owed(desk, table, shelf, Ticket(ticket)))
 }

@@ -14,7 +14,7 @@ use Rattle.rules.specs.declared.SlotNumber.{SlotNumber}
 use Rattle.rules.specs.Answers.{Answer, Shown}
 use Rattle.rules.specs.Bytes.{field, u64_at}
 use Rattle.rules.specs.Calls.{slot_in, card_of, position_of}
-use Rattle.rules.specs.Promises.{Buffer, StartsAt, LiesAt}
+use Rattle.rules.specs.Promises.{StartsAt, LiesAt}
 use Rattle.rules.specs.Memory.{Store, T, R, card, idle, slots_of, card_at, store_of, version}
 use Rattle.rules.specs.Next.{Told, told, walk, peeked_at}
 use Rattle.rules.specs.Refusals.{Call, Reading, no_scan, step}
@@ -187,7 +187,7 @@ module _ (d t s : List ℕ) (k : ℕ) {p : ℕ} (ep : p ≡ scan_of (store_of d 
             ap (λ (l : List ℕ). told (Answer.shown (Shown.part l)) S []) (el ∙ version_at t i.0 (below_table e) bytes ∙ sym (ap version here-table))
             ∙ shows-here S k one desk-there card-fits there-table
 
-        pub lies_table : (part : Bor (List ℕ)) (tb sh : Buffer) → StartsAt part tb i.0 → LiesAt part tb sh (T S) (peeked_at S k)
+        pub lies_table : (part tb sh : Bor (List ℕ)) → StartsAt part tb i.0 → LiesAt part tb sh (T S) (peeked_at S k)
         lies_table part tb sh a =
             let q : peeked_at S k ≡ i.0 = stands_at S k one desk-there card-fits there-table ∙ stop_table in
             let h : i.0 < T S = (table_says S p (sym ev ∙ e)).1 in
@@ -211,7 +211,7 @@ module _ (d t s : List ℕ) (k : ℕ) {p : ℕ} (ep : p ≡ scan_of (store_of d 
             ap (λ (l : List ℕ). told (Answer.shown (Shown.part l)) S []) (el ∙ version_at s j.0 (below_shelf e) bytes ∙ sym (ap version here-shelf))
             ∙ shows-here S k one desk-there card-fits there-shelf
 
-        pub lies_shelf : (part : Bor (List ℕ)) (tb sh : Buffer) → StartsAt part sh j.0 → LiesAt part tb sh (T S) (peeked_at S k)
+        pub lies_shelf : (part tb sh : Bor (List ℕ)) → StartsAt part sh j.0 → LiesAt part tb sh (T S) (peeked_at S k)
         lies_shelf part tb sh a =
             let q : peeked_at S k ≡ T S + j.0 = stands_at S k one desk-there card-fits there-shelf ∙ stop_shelf in
             let back : peeked_at S k - T S ≡ j.0 = omega arith in

@@ -3,7 +3,7 @@
 
 ghost use Rattle.std.specs.Prelude.{◌≡◌, ◌/◌, ◌<◌, length};
 ghost use Rattle.rules.specs.Answers.{tally_says, owed_says};
-ghost use Rattle.rules.specs.Promises.{Tells, TellsUnderAnyDesk};
+ghost use Rattle.rules.specs.Promises.{Tells, TellsUnderAnyDesk, kept};
 ghost use Rattle.rules.specs.Refusals.{Call, Reading};
 ghost use Rattle.running.specs.Scan.{Ready};
 
@@ -14,7 +14,7 @@ pub mod peek;
 
 pub fn tally(table: &[u8], shelf: &[u8]) -> TallyAnswer
     requires { (length table.now / 64 < 4294967296) × (length shelf.now / 64 < 4294967296) }
-    ensures { TellsUnderAnyDesk (tally_says result) table shelf (Call.reading Reading.tally) }
+    ensures { TellsUnderAnyDesk (tally_says result) (kept table.now) (kept shelf.now) (Call.reading Reading.tally) }
 {
     let records = counts::used(table);
     let entries = counts::used(shelf);
@@ -26,7 +26,7 @@ pub fn tally(table: &[u8], shelf: &[u8]) -> TallyAnswer
 
 pub fn owed(desk: &[u8], table: &[u8], shelf: &[u8], ticket: Ticket) -> OwedAnswer
     requires { Ready desk.now table.now shelf.now }
-    ensures { Tells (owed_says result) desk table shelf (Call.reading (Reading.owed ticket.0)) }
+    ensures { Tells (owed_says result) (kept desk.now) (kept table.now) (kept shelf.now) (Call.reading (Reading.owed ticket.0)) }
 {
     let p = running::scan_of(desk, ticket);
     if p.below(64) {

@@ -1,7 +1,8 @@
 // Peek: where the version stands that next would hand out, and the part of that buffer.
 ghost use Rattle.std.specs.Prelude.{◌≡◌};
 ghost use Rattle.rules.specs.Answers.{Answer, Shown};
-ghost use Rattle.rules.specs.Promises.{stood, Tells, NoCopy};
+ghost use Rattle.rules.specs.Memory.{store_of};
+ghost use Rattle.rules.specs.Promises.{Tells, NoCopy, kept};
 ghost use Rattle.rules.specs.Refusals.{Call, Reading};
 ghost use Rattle.running.specs.Scan.{Ready, Runs};
 ghost use Rattle.readings.specs.Found.{found_at};
@@ -20,7 +21,7 @@ pub enum Found {
 // What the scan at p would be handed.
 fn found_at(desk: &[u8], table: &[u8], shelf: &[u8], p: Position) -> Found
     requires { Ready desk.now table.now shelf.now × Runs desk.now p.0 }
-    ensures { result ≡ found_at (stood desk table shelf) p.0 }
+    ensures { result ≡ found_at (store_of desk.now table.now shelf.now) p.0 }
 {
     let slots = slots::slot_count(table);
     let all = slots + slots::slot_count(shelf);
@@ -43,7 +44,7 @@ fn found_at(desk: &[u8], table: &[u8], shelf: &[u8], p: Position) -> Found
 // The 56 bytes of number and body as a part of table or shelf and no copy; an empty part where next would hand out nothing.
 pub fn peek<'a>(desk: &[u8], table: &'a [u8], shelf: &'a [u8], ticket: Ticket) -> &'a [u8]
     requires { Ready desk.now table.now shelf.now }
-    ensures { Tells (Answer.shown (Shown.part result.now)) desk table shelf (Call.reading (Reading.peek ticket.0)) × NoCopy result desk table shelf ticket.0 }
+    ensures { Tells (Answer.shown (Shown.part result.now)) (kept desk.now) (kept table.now) (kept shelf.now) (Call.reading (Reading.peek ticket.0)) × NoCopy result desk.entry table.entry shelf.entry ticket.0 }
 {
     let p = running::scan_of(desk, ticket);
     if p.below(64) {

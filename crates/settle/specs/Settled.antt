@@ -27,25 +27,25 @@ CanHandOut d t s o p c m looks =
 
 -- the desk of a scan that has moved to place q with h handed, over any table and shelf
 abbrev pub GoesOn : Buffer → Buffer → ℕ → ℕ → ℕ → Type 0
-GoesOn d t p q h = (s : List ℕ) (tb sf : List Slot) → store (desk_of d.exit.now) tb sf ≡ moved_to (store_of d.entry.now t.entry.now s) p q h tb sf
+GoesOn d t p q h = (s : List ℕ) (tb sf : List Slot) → store (desk_of d.exit) tb sf ≡ moved_to (store_of d.entry t.entry s) p q h tb sf
 
 -- it has moved over the table and shelf as they are
 abbrev pub MovesOn : Buffer → Buffer → ℕ → ℕ → ℕ → Type 0
-MovesOn d t p q h = (s : List ℕ) → store_of d.exit.now t.entry.now s ≡ moved_to (store_of d.entry.now t.entry.now s) p q h (slots_of t.entry.now) (slots_of s)
+MovesOn d t p q h = (s : List ℕ) → store_of d.exit t.entry s ≡ moved_to (store_of d.entry t.entry s) p q h (slots_of t.entry) (slots_of s)
 
 -- and is finished
 abbrev pub Finishes : Buffer → Buffer → ℕ → ℕ → ℕ → Type 0
-Finishes d t p q h = (s : List ℕ) → store_of d.exit.now t.entry.now s ≡ finish (moved_to (store_of d.entry.now t.entry.now s) p q h (slots_of t.entry.now) (slots_of s)) p
+Finishes d t p q h = (s : List ℕ) → store_of d.exit t.entry s ≡ finish (moved_to (store_of d.entry t.entry s) p q h (slots_of t.entry) (slots_of s)) p
 
 -- table, shelf and hand-out buffer where a scan takes the version at place q, whatever the desk
 abbrev pub Takes : Buffer → Buffer → Buffer → ℕ → ℕ → Type 0
 Takes t s o p q =
     (d : List ℕ)
-    → (moved_to (store_of d t.entry.now s.entry.now) p (suc q) (suc (card_of (store_of d t.entry.now s.entry.now) p).handed) (slots_of t.exit.now) (slots_of s.exit.now) ≡ took (store_of d t.entry.now s.entry.now) p q)
-    × (o.exit.now ≡ version (here (store_of d t.entry.now s.entry.now) q))
+    → (moved_to (store_of d t.entry s.entry) p (suc q) (suc (card_of (store_of d t.entry s.entry) p).handed) (slots_of t.exit) (slots_of s.exit) ≡ took (store_of d t.entry s.entry) p q)
+    × (o.exit ≡ version (here (store_of d t.entry s.entry) q))
 
 -- and with the desk: the version at place q is handed out
 abbrev pub HandsOut : Buffer → Buffer → Buffer → Buffer → ℕ → ℕ → Type 0
 HandsOut d t s o p q =
-    (store_of d.exit.now t.exit.now s.exit.now ≡ took (store_of d.entry.now t.entry.now s.entry.now) p q)
-    × (o.exit.now ≡ version (here (store_of d.entry.now t.entry.now s.entry.now) q))
+    (store_of d.exit t.exit s.exit ≡ took (store_of d.entry t.entry s.entry) p q)
+    × (o.exit ≡ version (here (store_of d.entry t.entry s.entry) q))
