@@ -1,5 +1,5 @@
 -- The rules before the cards, as the code tests them.
-use mathlib.Core.Path.{◌≡◌, refl}
+use mathlib.Core.Path.{◌≡◌, refl, ap, ◌∙◌}
 use mathlib.Core.Bool.{Bool, ◌&&◌, and-true, and_assoc}
 use mathlib.Core.List.{List}
 use Prim.Native.Nat.{ℕ}
@@ -23,11 +23,10 @@ module _ (d : List ℕ) where
   -- from what the code has read
   pub head_by : (t r : ℕ) {n a b : ℕ} {m : Masks} {k x y : Bool} → n ≡ u32_at d 0 → a ≡ u32_at d 4 → b ≡ u32_at d 8 → k ≡ n_in_range n && (eqb a t && eqb b r) → x ≡ zero_words d 5 8
       → held m ≡ masks_of d → y ≡ high_bits n (held m) → k && (x && y) ≡ all_hold (head_rules (desk_of d) t r)
-  head_by t r n a b k x m y =
+  head_by t r {n = n'} n a b k x m y =
       let rest : Bool = all_zero (field 24 40 d) && high_bits (u32_at d 0) (masks_of d) in
       rw (
-        y,
-        m,
+        y ∙ ap (high_bits n') m,
         k,
         n,
         a,
