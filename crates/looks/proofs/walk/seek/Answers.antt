@@ -3,6 +3,7 @@ use mathlib.Core.Logic.{◌⊎◌, ⊎_elim}
 use mathlib.Core.Path.{◌≡◌, refl}
 use Prim.Native.Nat.{ℕ, ◌/◌, ◌<◌}
 use native.Mathlib.Omega.{arith}
+use borrow.Enum.Refused.{opened}
 use lib.ListN.{length}
 use Rattle.looks.specs.declared.walk.Seen.{Seen}
 use Rattle.looks.specs.Walked.{sought_of}
@@ -25,7 +26,7 @@ returns-in-Record c = go c.walk-there.result.seen refl
         let args = c.args in
         let inside : c.args.place < length c.args.table.now / 64 = omega (arith, c.slot_count-slots.ensures, c.if-place-slots.true) in
         seek_spent args.stable args.p.0 args.table.now args.shelf.now args.place args.budget c.requires.0 inside c.walk-there.ensures e
-    go Seen.End e = absurd (other (rw e at c.in-Record.in-Record-own.keys1))
+    go Seen.End e = absurd (other (opened (rw e at c.in-Record.in-Record-own.keys1)))
 
 pub overflow_add-result : goal.overflow_add-result
 overflow_add-result c =
