@@ -13,10 +13,10 @@ use Rattle.rules.specs.declared.NextAnswer.{NextAnswer}
 use Rattle.rules.specs.declared.OwedAnswer.{OwedAnswer}
 use Rattle.rules.specs.declared.TallyAnswer.{TallyAnswer}
 use Rattle.rules.specs.Answers.{Answer, Draw, Shown, done, begun, refused, change_says, begin_says, next_says, tally_says, owed_says}
-use Rattle.rules.specs.Memory.{Lent, T, read}
+use Rattle.rules.specs.Memory.{Lent, Store, T, store_of, read}
 use Rattle.rules.specs.Next.{peeked_at}
 use Rattle.rules.specs.Refusals.{Call, first_of, refusals, refused_as, out_of, Reply, reply, replied, called, Returned, returned, packed_reply}
-use Rattle.rules.specs.Promises.{Buffer, before, after, stood, Answers, HandsOut, Returns, ReturnsOut, LiesAt, NoCopy}
+use Rattle.rules.specs.Promises.{Buffer, kept, before, after, Answers, HandsOut, Returns, ReturnsOut, LiesAt, NoCopy}
 
 -- ---- an enum of the code is told by its answer
 
@@ -136,27 +136,31 @@ module _ (c : Call) (d₁ t₁ s₁ d₂ t₂ s₂ : Buffer) (alike : before d�
   unfolding part_back
   peek_once x y p q = let z = once (λ (z : List ℕ). Answer.shown (Shown.part z)) part_back (λ v. refl) c alike p q in (z.0, z.1)
 
-  -- and where it lies, in a table and a shelf that lie there
-  pub part_once : (x y : Bor (List ℕ)) (ticket : ℕ) → t₁.entry.ref_ptr ≡ t₂.entry.ref_ptr → s₁.entry.ref_ptr ≡ s₂.entry.ref_ptr
-      → NoCopy x d₁ t₁ s₁ ticket → NoCopy y d₂ t₂ s₂ ticket → (x.now ≡ [] → ⊥) → (y.now ≡ [] → ⊥) → x.ref_ptr ≡ y.ref_ptr
-  part_once x y ticket et es p q nx ny = go (ltb (peeked_at (stood d₁ t₁ s₁) ticket) (T (stood d₁ t₁ s₁))) refl
-    where
-      here : LiesAt y t₂ s₂ (T (stood d₁ t₁ s₁)) (peeked_at (stood d₁ t₁ s₁) ticket)
-      here = subst (λ (k : Lent). LiesAt y t₂ s₂ (T (read k)) (peeked_at (read k) ticket)) (sym alike) (q ny)
-
-      go : (b : Bool) → ltb (peeked_at (stood d₁ t₁ s₁) ticket) (T (stood d₁ t₁ s₁)) ≡ b → x.ref_ptr ≡ y.ref_ptr
-      go true e = let h = ltb-true _ _ e in (p nx).in_table h ∙ ap (λ (a : _). (a.0, peeked_at (stood d₁ t₁ s₁) ticket * 64 + a.1)) et ∙ sym (here.in_table h)
-      go false e = let h = ltb-false _ _ e in (p nx).on_shelf h ∙ ap (λ (a : _). (a.0, (peeked_at (stood d₁ t₁ s₁) ticket - T (stood d₁ t₁ s₁)) * 64 + a.1)) es ∙ sym (here.on_shelf h)
-
-  pub next_once : (o₁ o₂ : Buffer) (a b : NextAnswer) → HandsOut (next_says a) d₁ t₁ s₁ o₁ c → HandsOut (next_says b) d₂ t₂ s₂ o₂ c → (a ≡ b) × (after d₁ t₁ s₁ ≡ after d₂ t₂ s₂) × (o₁.exit.now ≡ o₂.exit.now)
+  pub next_once : (o₁ o₂ : Buffer) (a b : NextAnswer) → HandsOut (next_says a) d₁ t₁ s₁ o₁ c → HandsOut (next_says b) d₂ t₂ s₂ o₂ c → (a ≡ b) × (after d₁ t₁ s₁ ≡ after d₂ t₂ s₂) × (o₁.exit ≡ o₂.exit)
   next_once o₁ o₂ a b p q = once next_says next_back next-told c alike p q
 
   -- every exported call but next, and next
   pub host_once : (n₁ n₂ : ℕ) → Returns n₁ d₁ t₁ s₁ c → Returns n₂ d₂ t₂ s₂ c → (n₁ ≡ n₂) × (after d₁ t₁ s₁ ≡ after d₂ t₂ s₂)
   host_once n₁ n₂ p q = let z = returned_once c alike p q in (z.0, z.1)
 
-  pub host_next_once : (o₁ o₂ : Buffer) (n₁ n₂ : ℕ) → ReturnsOut n₁ d₁ t₁ s₁ o₁ c → ReturnsOut n₂ d₂ t₂ s₂ o₂ c → (n₁ ≡ n₂) × (after d₁ t₁ s₁ ≡ after d₂ t₂ s₂) × (o₁.exit.now ≡ o₂.exit.now)
+  pub host_next_once : (o₁ o₂ : Buffer) (n₁ n₂ : ℕ) → ReturnsOut n₁ d₁ t₁ s₁ o₁ c → ReturnsOut n₂ d₂ t₂ s₂ o₂ c → (n₁ ≡ n₂) × (after d₁ t₁ s₁ ≡ after d₂ t₂ s₂) × (o₁.exit ≡ o₂.exit)
   host_next_once o₁ o₂ n₁ n₂ p q = returned_once c alike p q
+
+-- where peek's part lies, in a table and a shelf that lie there
+module _ (d₁ t₁ s₁ d₂ t₂ s₂ : Bor (List ℕ)) (alike : before (kept d₁.now) (kept t₁.now) (kept s₁.now) ≡ before (kept d₂.now) (kept t₂.now) (kept s₂.now)) where
+  abbrev S : Store
+  S = store_of d₁.now t₁.now s₁.now
+
+  pub part_once : (x y : Bor (List ℕ)) (ticket : ℕ) → t₁.ref_ptr ≡ t₂.ref_ptr → s₁.ref_ptr ≡ s₂.ref_ptr
+      → NoCopy x d₁ t₁ s₁ ticket → NoCopy y d₂ t₂ s₂ ticket → (x.now ≡ [] → ⊥) → (y.now ≡ [] → ⊥) → x.ref_ptr ≡ y.ref_ptr
+  part_once x y ticket et es p q nx ny = go (ltb (peeked_at S ticket) (T S)) refl
+    where
+      here : LiesAt y t₂ s₂ (T S) (peeked_at S ticket)
+      here = subst (λ (k : Lent). LiesAt y t₂ s₂ (T (read k)) (peeked_at (read k) ticket)) (sym alike) (q ny)
+
+      go : (b : Bool) → ltb (peeked_at S ticket) (T S) ≡ b → x.ref_ptr ≡ y.ref_ptr
+      go true e = let h = ltb-true _ _ e in (p nx).in_table h ∙ ap (λ (a : _). (a.0, peeked_at S ticket * 64 + a.1)) et ∙ sym (here.in_table h)
+      go false e = let h = ltb-false _ _ e in (p nx).on_shelf h ∙ ap (λ (a : _). (a.0, (peeked_at S ticket - T S) * 64 + a.1)) es ∙ sym (here.on_shelf h)
 
 -- ---- "Refusals 1 to 11 change no byte."
 

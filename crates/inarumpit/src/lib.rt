@@ -1,4 +1,4 @@
-// The calls for the C host: numbers and byte buffers in, one 64-bit number back, answer + 256 × value.
+// The calls for the C host: numbers and byte buffers in, one 64-bit number back, answer + 256 × value. The crate inarumpit_c exports them.
 #![tactic(auto)]
 
 ghost use Rattle.rules.specs.Promises.{Returns, ReturnsOut, changed, kept};
@@ -8,15 +8,13 @@ use rules::{RecordNumber, Ticket};
 
 pub mod calls;
 
-#[unsafe(no_mangle)]
-pub extern "C" fn inarumpit_open(desk: &mut [u8], table: &mut [u8], shelf: &mut [u8], n: u32) -> u64
+pub fn inarumpit_open(desk: &mut [u8], table: &mut [u8], shelf: &mut [u8], n: u32) -> u64
     ensures { Returns result (changed desk.old desk.new) (changed table.old table.new) (changed shelf.old shelf.new) (Call.opening n) }
 {
     packing::change(calls::open(desk, table, shelf, n))
 }
 
-#[unsafe(no_mangle)]
-pub extern "C" fn inarumpit_insert(
+pub fn inarumpit_insert(
     desk: &[u8],
     table: &mut [u8],
     shelf: &[u8],
@@ -28,8 +26,7 @@ pub extern "C" fn inarumpit_insert(
     packing::change(calls::insert(desk, table, shelf, RecordNumber(number), body))
 }
 
-#[unsafe(no_mangle)]
-pub extern "C" fn inarumpit_modify(
+pub fn inarumpit_modify(
     desk: &[u8],
     table: &mut [u8],
     shelf: &mut [u8],
@@ -41,27 +38,19 @@ pub extern "C" fn inarumpit_modify(
     packing::change(calls::modify(desk, table, shelf, RecordNumber(number), body))
 }
 
-#[unsafe(no_mangle)]
-pub extern "C" fn inarumpit_delete(
-    desk: &[u8],
-    table: &mut [u8],
-    shelf: &mut [u8],
-    number: u32,
-) -> u64
+pub fn inarumpit_delete(desk: &[u8], table: &mut [u8], shelf: &mut [u8], number: u32) -> u64
     ensures { Returns result (kept desk.now) (changed table.old table.new) (changed shelf.old shelf.new) (Call.change (Change.delete number)) }
 {
     packing::change(calls::delete(desk, table, shelf, RecordNumber(number)))
 }
 
-#[unsafe(no_mangle)]
-pub extern "C" fn inarumpit_begin(desk: &mut [u8], table: &[u8], shelf: &[u8]) -> u64
+pub fn inarumpit_begin(desk: &mut [u8], table: &[u8], shelf: &[u8]) -> u64
     ensures { Returns result (changed desk.old desk.new) (kept table.now) (kept shelf.now) Call.begin }
 {
     packing::begin(calls::begin(desk, table, shelf))
 }
 
-#[unsafe(no_mangle)]
-pub extern "C" fn inarumpit_next(
+pub fn inarumpit_next(
     desk: &mut [u8],
     table: &mut [u8],
     shelf: &mut [u8],
@@ -74,15 +63,13 @@ pub extern "C" fn inarumpit_next(
     packing::next(calls::next(desk, table, shelf, Ticket(ticket), budget, out))
 }
 
-#[unsafe(no_mangle)]
-pub extern "C" fn inarumpit_tally(desk: &[u8], table: &[u8], shelf: &[u8]) -> u64
+pub fn inarumpit_tally(desk: &[u8], table: &[u8], shelf: &[u8]) -> u64
     ensures { Returns result (kept desk.now) (kept table.now) (kept shelf.now) (Call.reading Reading.tally) }
 {
     packing::tally(calls::tally(desk, table, shelf))
 }
 
-#[unsafe(no_mangle)]
-pub extern "C" fn inarumpit_owed(desk: &[u8], table: &[u8], shelf: &[u8], ticket: u32) -> u64
+pub fn inarumpit_owed(desk: &[u8], table: &[u8], shelf: &[u8], ticket: u32) -> u64
     ensures { Returns result (kept desk.now) (kept table.now) (kept shelf.now) (Call.reading (Reading.owed ticket)) }
 {
     packing::owed(calls::owed(desk, table, shelf, Ticket(ticket)))

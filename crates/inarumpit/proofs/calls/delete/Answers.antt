@@ -1,0 +1,24 @@
+-- the way in is open
+use mathlib.Core.Path.{refl}
+use native.Mathlib.Omega.{arith}
+use Rattle.rules.specs.Answers.{change_says}
+use Rattle.rules.specs.Refusals.{Call, Change, own_right, looks_at_desk, refused_as, out_of}
+use Rattle.inarumpit.proofs.Replies.{LetIn, let_in, by_refusal, by_lengths, by_rule}
+use Rattle.inarumpit.proofs.calls.delete.Goals as goal
+
+pub delete-requires : goal.delete-requires
+unfolding looks_at_desk own_right
+delete-requires c =
+    let admitted : LetIn c.args.desk.now c.args.table.now c.args.shelf.now (Call.change (Change.delete c.args.k.0)) = let_in _ c.way_in-shut.ensures c.if-shut-eq0.true (λ j. omega (arith, c.shared_slice_known-1.given j)) (λ j. omega (arith, c.slice_known-1.given j)) (λ j. omega (arith, c.slice_known-2-1.given j)) in
+    (by_lengths admitted).desk
+
+pub returns-then-shut-eq0 : goal.returns-then-shut-eq0
+unfolding looks_at_desk own_right
+returns-then-shut-eq0 c =
+    let admitted : LetIn c.args.desk.now c.args.table.now c.args.shelf.now (Call.change (Change.delete c.args.k.0)) = let_in _ c.way_in-shut.ensures c.if-shut-eq0.true (λ j. omega (arith, c.shared_slice_known-1.given j)) (λ j. omega (arith, c.slice_known-1.given j)) (λ j. omega (arith, c.slice_known-2-1.given j)) in
+    let here = admitted in
+    by_rule here refl c.table-1.given c.shelf-1.given here.desk_bytes (λ j. omega (arith, c.slice_known-then-shut-eq0-1.given j)) (λ j. omega (arith, c.slice_known-then-shut-eq0-2-1.given j)) c.delete.ensures
+
+pub returns : goal.returns
+unfolding change_says own_right looks_at_desk refused_as out_of
+returns c = by_refusal _ c.way_in-shut.ensures c.if-shut-eq0.false
