@@ -13,7 +13,7 @@ help:
 
 ## all checks; then every crate proved from nothing and every must-fail edit refused
 test: toolchain checks
-	@rt ci
+	@tools/gate
 
 # Proving the library keeps one processor busy for most of its time; the wrong headers and programs are tried on the other.
 ## all single checks
@@ -43,7 +43,7 @@ target/EDITS.md: tools/edits crates.txt crates/*/must-fail $(wildcard crates/*/m
 
 ## removes all that was built, the proofs too
 clean:
-	@rm -rf target bench/out
+	@rm -rf target bench/out crates/*/out
 	@echo 'clean: removed target and bench/out'
 
 include tools/compilers.mk

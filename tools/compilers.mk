@@ -24,7 +24,7 @@ HOST_CFLAGS := -std=c99 -Wall -Wextra -Werror -O2 -Iinclude
 archive: $(ARCHIVE)
 
 # Built again when anything that it is proved from has changed.
-$(ARCHIVE): crates.txt $(shell find crates -type f \( -name '*.rt' -o -name '*.antt' \))
+$(ARCHIVE): crates.txt $(shell find crates -name out -prune -o -type f \( -name '*.rt' -o -name '*.antt' \) -print)
 	@tools/archive $@
 
 host-tools:

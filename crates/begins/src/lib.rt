@@ -4,7 +4,7 @@
 ghost use Rattle.std.specs.Prelude.{◌≡◌, ◌+◌, ◌*◌, ◌≤◌, ◌<◌, length};
 ghost use Rattle.rules.specs.Answers.{begin_says};
 ghost use Rattle.rules.specs.Bytes.{u32_at};
-ghost use Rattle.rules.specs.Promises.{TellsOverAnySlots, changed};
+ghost use Rattle.rules.specs.Promises.{TellsOverAnySlots, rewritten};
 ghost use Rattle.rules.specs.Masks.{walk_begun as begunMasks};
 ghost use Rattle.rules.specs.Memory.{card, masks_bytes, card_bytes};
 ghost use Rattle.rules.specs.Refusals.{Call};
@@ -44,7 +44,7 @@ fn seat(desk: &mut [u8], ticket: Ticket, p: Position, m: Masks)
 
 pub fn begin(desk: &mut [u8]) -> BeginAnswer
     requires { (length desk.old ≡ 1088) × (u32_at desk.old 0 ≤ 64) }
-    ensures { TellsOverAnySlots (begin_says result) (changed desk.old desk.new) Call.begin }
+    ensures { TellsOverAnySlots (begin_says result) (rewritten desk.old desk.new) Call.begin }
 {
     let p = positions::free_position(desk);
     if p.below(desk::n(desk)) {

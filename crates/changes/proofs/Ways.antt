@@ -1,27 +1,24 @@
 -- The ways out of the changes' code, each from what its steps ensure to the rule.
 use mathlib.Core.Path.{◌≡◌, refl, sym, ap, ◌∙◌}
-use mathlib.Core.Bool.{Bool, true, false, false≢true}
-use mathlib.Core.Option.{none, some}
+use mathlib.Core.Bool.{true, false, false≢true}
 use mathlib.Core.List.{List, []}
 use Prim.Native.Nat.{ℕ, ◌+◌, ◌*◌, ◌-◌, ◌/◌, ◌^◌, ◌≤◌, ◌<◌}
 use native.Mathlib.Nat.{sub-zero}
 use native.Mathlib.Omega.{arith}
 use lib.Bits.{or_lt, xor_lt}
 use lib.ListN.{length, replicate}
-use Rattle.rules.specs.declared.ChangeAnswer.{ChangeAnswer}
-use Rattle.rules.specs.Answers.{done, refused, change_says}
-use Rattle.rules.specs.Bytes.{u32_at, u64_at}
+use Rattle.rules.specs.Answers.{done, refused}
 use Rattle.rules.specs.Calls.{first, bearing, empty_slot, shelf_entry, m_at}
-use Rattle.rules.specs.Masks.{Masks, ones, fresh, new_status, m_of, REMSET_MASK_INS}
-use Rattle.rules.specs.Memory.{Store, T, R, slots_of, masks_of, store_of, masks_bytes}
+use Rattle.rules.specs.Masks.{Masks, ones, new_status, m_of, REMSET_MASK_INS}
+use Rattle.rules.specs.Memory.{T, R, slots_of, masks_of, store_of}
 use Rattle.rules.specs.Next.{told}
 use Rattle.rules.specs.Refusals.{Call, Change, step, kind_right}
 use Rattle.rules.proofs.Bytes.{Bytes, u64_small}
 use Rattle.layout.specs.Puts.{put, put32, put64}
 use Rattle.joins.specs.Search.{bears, bears_or_empty}
 use Rattle.joins.proofs.Slots.{count, slots-there, entries-there}
-use Rattle.joins.proofs.Search.{bearing_is, pass_number, pass_empty}
-use Rattle.joins.proofs.Cases.{insert-zero, insert_kind, insert-there, insert_full, insert-done, modify-zero, modify_kind, modify_absent, modify-unawaited, modify-room, modify-awaited, delete-zero, delete_absent, delete-unawaited, delete-room, delete-awaited}
+use Rattle.joins.proofs.Search.{pass_number, pass_empty}
+use Rattle.joins.proofs.Cases.{insert-there, insert_full, insert-done, modify_absent, modify-unawaited, modify-room, modify-awaited, delete_absent, delete-unawaited, delete-room, delete-awaited}
 use Rattle.joins.proofs.Effects.{m_at_lem, inserted-spelt, modified-spelt, deleted-spelt, modified_shelved_spelt, deleted_shelved_spelt}
 use Rattle.shelving.specs.declared.Kept.{Kept}
 use Rattle.shelving.specs.Keeps.{goes_on, m_in, entry_taken, keeps}

@@ -4,7 +4,7 @@
 ghost use Rattle.std.specs.Prelude.{◌≡◌, length};
 ghost use Rattle.rules.specs.Answers.{next_says};
 ghost use Rattle.rules.specs.Memory.{store_of};
-ghost use Rattle.rules.specs.Promises.{TellsOut, changed};
+ghost use Rattle.rules.specs.Promises.{TellsOut, rewritten};
 ghost use Rattle.rules.specs.Next.{told, walk};
 ghost use Rattle.rules.specs.Refusals.{Call};
 ghost use Rattle.running.specs.Scan.{Ready, Runs};
@@ -21,7 +21,7 @@ pub fn next(
     out: &mut [u8],
 ) -> NextAnswer
     requires { Ready desk.old table.old shelf.old × (length out.old ≡ 56) }
-    ensures { TellsOut (next_says result) (changed desk.old desk.new) (changed table.old table.new) (changed shelf.old shelf.new) (changed out.old out.new) (Call.next ticket.0 budget out.old) }
+    ensures { TellsOut (next_says result) (rewritten desk.old desk.new) (rewritten table.old table.new) (rewritten shelf.old shelf.new) (rewritten out.old out.new) (Call.next ticket.0 budget out.old) }
 {
     let p = running::scan_of(desk, ticket);
     if p.below(64) {

@@ -2,7 +2,7 @@
 use Rattle.std.specs.Prelude.{Bool, not, ◌&&◌, List, [], ◌∷◌, ℕ, length}
 use Rattle.std.proofs.Math.Option.{Option, none, some}
 use Rattle.rules.specs.Memory.{store_of}
-use Rattle.rules.specs.Refusals.{lengths_right, Refusals, first_of}
+use Rattle.rules.specs.Refusals.{lengths_right, first_of}
 use Rattle.rules.specs.Sound.{sound}
 
 abbrev pub or_zero : Option ℕ → ℕ

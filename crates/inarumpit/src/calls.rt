@@ -1,7 +1,7 @@
 // The nine calls for Rattle callers: any bytes of any length, any numbers; a refusal changes no byte.
 ghost use Rattle.std.specs.Prelude.{true, ◌≡◌};
 ghost use Rattle.rules.specs.Answers.{Answer, Shown, change_says, begin_says, next_says, tally_says, owed_says};
-ghost use Rattle.rules.specs.Promises.{Answers, HandsOut, NoCopy, changed, kept};
+ghost use Rattle.rules.specs.Promises.{Answers, HandsOut, NoCopy, rewritten, kept};
 ghost use Rattle.rules.specs.Refusals.{Call, Change, Reading};
 ghost use Rattle.inarumpit.specs.WayIn.{way_in};
 
@@ -34,7 +34,7 @@ fn own_way_in(own: bool, desk: &[u8], table: &[u8], shelf: &[u8]) -> u8
 }
 
 pub fn open(desk: &mut [u8], table: &mut [u8], shelf: &mut [u8], n: u32) -> ChangeAnswer
-    ensures { Answers (change_says result) (changed desk.old desk.new) (changed table.old table.new) (changed shelf.old shelf.new) (Call.opening n) }
+    ensures { Answers (change_says result) (rewritten desk.old desk.new) (rewritten table.old table.new) (rewritten shelf.old shelf.new) (Call.opening n) }
 {
     if numbers::lengths::lengths_right(desk.len(), table.len(), shelf.len()) {
         return opening::open(desk, table, shelf, n);
@@ -49,7 +49,7 @@ pub fn insert(
     k: RecordNumber,
     body: &[u8],
 ) -> ChangeAnswer
-    ensures { Answers (change_says result) (kept desk.now) (changed table.old table.new) (kept shelf.now) (Call.change (Change.insert k.0 body.now)) }
+    ensures { Answers (change_says result) (kept desk.now) (rewritten table.old table.new) (kept shelf.now) (Call.change (Change.insert k.0 body.now)) }
 {
     let shut = own_way_in(body.len() == 52, desk, table, shelf);
     if shut == 0 {
@@ -65,7 +65,7 @@ pub fn modify(
     k: RecordNumber,
     body: &[u8],
 ) -> ChangeAnswer
-    ensures { Answers (change_says result) (kept desk.now) (changed table.old table.new) (changed shelf.old shelf.new) (Call.change (Change.modify k.0 body.now)) }
+    ensures { Answers (change_says result) (kept desk.now) (rewritten table.old table.new) (rewritten shelf.old shelf.new) (Call.change (Change.modify k.0 body.now)) }
 {
     let shut = own_way_in(body.len() == 52, desk, table, shelf);
     if shut == 0 {
@@ -75,7 +75,7 @@ pub fn modify(
 }
 
 pub fn delete(desk: &[u8], table: &mut [u8], shelf: &mut [u8], k: RecordNumber) -> ChangeAnswer
-    ensures { Answers (change_says result) (kept desk.now) (changed table.old table.new) (changed shelf.old shelf.new) (Call.change (Change.delete k.0)) }
+    ensures { Answers (change_says result) (kept desk.now) (rewritten table.old table.new) (rewritten shelf.old shelf.new) (Call.change (Change.delete k.0)) }
 {
     let shut = way_in(desk, table, shelf);
     if shut == 0 {
@@ -85,7 +85,7 @@ pub fn delete(desk: &[u8], table: &mut [u8], shelf: &mut [u8], k: RecordNumber) 
 }
 
 pub fn begin(desk: &mut [u8], table: &[u8], shelf: &[u8]) -> BeginAnswer
-    ensures { Answers (begin_says result) (changed desk.old desk.new) (kept table.now) (kept shelf.now) Call.begin }
+    ensures { Answers (begin_says result) (rewritten desk.old desk.new) (kept table.now) (kept shelf.now) Call.begin }
 {
     let shut = way_in(desk, table, shelf);
     if shut == 0 {
@@ -102,7 +102,7 @@ pub fn next(
     budget: u32,
     out: &mut [u8],
 ) -> NextAnswer
-    ensures { HandsOut (next_says result) (changed desk.old desk.new) (changed table.old table.new) (changed shelf.old shelf.new) (changed out.old out.new) (Call.next ticket.0 budget out.old) }
+    ensures { HandsOut (next_says result) (rewritten desk.old desk.new) (rewritten table.old table.new) (rewritten shelf.old shelf.new) (rewritten out.old out.new) (Call.next ticket.0 budget out.old) }
 {
     let shut = own_way_in(out.len() == 56, desk, table, shelf);
     if shut == 0 {

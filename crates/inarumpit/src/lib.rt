@@ -1,7 +1,7 @@
 // The calls for the C host: numbers and byte buffers in, one 64-bit number back, answer + 256 × value. The crate inarumpit_c exports them.
 #![tactic(auto)]
 
-ghost use Rattle.rules.specs.Promises.{Returns, ReturnsOut, changed, kept};
+ghost use Rattle.rules.specs.Promises.{Returns, ReturnsOut, rewritten, kept};
 ghost use Rattle.rules.specs.Refusals.{Call, Change, Reading};
 
 use rules::{RecordNumber, Ticket};
@@ -9,7 +9,7 @@ use rules::{RecordNumber, Ticket};
 pub mod calls;
 
 pub fn inarumpit_open(desk: &mut [u8], table: &mut [u8], shelf: &mut [u8], n: u32) -> u64
-    ensures { Returns result (changed desk.old desk.new) (changed table.old table.new) (changed shelf.old shelf.new) (Call.opening n) }
+    ensures { Returns result (rewritten desk.old desk.new) (rewritten table.old table.new) (rewritten shelf.old shelf.new) (Call.opening n) }
 {
     packing::change(calls::open(desk, table, shelf, n))
 }
@@ -21,7 +21,7 @@ pub fn inarumpit_insert(
     number: u32,
     body: &[u8],
 ) -> u64
-    ensures { Returns result (kept desk.now) (changed table.old table.new) (kept shelf.now) (Call.change (Change.insert number body.now)) }
+    ensures { Returns result (kept desk.now) (rewritten table.old table.new) (kept shelf.now) (Call.change (Change.insert number body.now)) }
 {
     packing::change(calls::insert(desk, table, shelf, RecordNumber(number), body))
 }
@@ -33,19 +33,19 @@ pub fn inarumpit_modify(
     number: u32,
     body: &[u8],
 ) -> u64
-    ensures { Returns result (kept desk.now) (changed table.old table.new) (changed shelf.old shelf.new) (Call.change (Change.modify number body.now)) }
+    ensures { Returns result (kept desk.now) (rewritten table.old table.new) (rewritten shelf.old shelf.new) (Call.change (Change.modify number body.now)) }
 {
     packing::change(calls::modify(desk, table, shelf, RecordNumber(number), body))
 }
 
 pub fn inarumpit_delete(desk: &[u8], table: &mut [u8], shelf: &mut [u8], number: u32) -> u64
-    ensures { Returns result (kept desk.now) (changed table.old table.new) (changed shelf.old shelf.new) (Call.change (Change.delete number)) }
+    ensures { Returns result (kept desk.now) (rewritten table.old table.new) (rewritten shelf.old shelf.new) (Call.change (Change.delete number)) }
 {
     packing::change(calls::delete(desk, table, shelf, RecordNumber(number)))
 }
 
 pub fn inarumpit_begin(desk: &mut [u8], table: &[u8], shelf: &[u8]) -> u64
-    ensures { Returns result (changed desk.old desk.new) (kept table.now) (kept shelf.now) Call.begin }
+    ensures { Returns result (rewritten desk.old desk.new) (kept table.now) (kept shelf.now) Call.begin }
 {
     packing::begin(calls::begin(desk, table, shelf))
 }
@@ -58,7 +58,7 @@ pub fn inarumpit_next(
     budget: u32,
     out: &mut [u8],
 ) -> u64
-    ensures { ReturnsOut result (changed desk.old desk.new) (changed table.old table.new) (changed shelf.old shelf.new) (changed out.old out.new) (Call.next ticket budget out.old) }
+    ensures { ReturnsOut result (rewritten desk.old desk.new) (rewritten table.old table.new) (rewritten shelf.old shelf.new) (rewritten out.old out.new) (Call.next ticket budget out.old) }
 {
     packing::next(calls::next(desk, table, shelf, Ticket(ticket), budget, out))
 }

@@ -1,12 +1,12 @@
 // The static library that a C host links: the calls of the crate inarumpit under their C names, with the same clauses.
 #![tactic(auto)]
 
-ghost use Rattle.rules.specs.Promises.{Returns, ReturnsOut, changed, kept};
+ghost use Rattle.rules.specs.Promises.{Returns, ReturnsOut, rewritten, kept};
 ghost use Rattle.rules.specs.Refusals.{Call, Change, Reading};
 
 #[unsafe(no_mangle)]
 pub extern "C" fn inarumpit_open(desk: &mut [u8], table: &mut [u8], shelf: &mut [u8], n: u32) -> u64
-    ensures { Returns result (changed desk.old desk.new) (changed table.old table.new) (changed shelf.old shelf.new) (Call.opening n) }
+    ensures { Returns result (rewritten desk.old desk.new) (rewritten table.old table.new) (rewritten shelf.old shelf.new) (Call.opening n) }
 {
     inarumpit::inarumpit_open(desk, table, shelf, n)
 }
@@ -19,7 +19,7 @@ pub extern "C" fn inarumpit_insert(
     number: u32,
     body: &[u8],
 ) -> u64
-    ensures { Returns result (kept desk.now) (changed table.old table.new) (kept shelf.now) (Call.change (Change.insert number body.now)) }
+    ensures { Returns result (kept desk.now) (rewritten table.old table.new) (kept shelf.now) (Call.change (Change.insert number body.now)) }
 {
     inarumpit::inarumpit_insert(desk, table, shelf, number, body)
 }
@@ -32,7 +32,7 @@ pub extern "C" fn inarumpit_modify(
     number: u32,
     body: &[u8],
 ) -> u64
-    ensures { Returns result (kept desk.now) (changed table.old table.new) (changed shelf.old shelf.new) (Call.change (Change.modify number body.now)) }
+    ensures { Returns result (kept desk.now) (rewritten table.old table.new) (rewritten shelf.old shelf.new) (Call.change (Change.modify number body.now)) }
 {
     inarumpit::inarumpit_modify(desk, table, shelf, number, body)
 }
@@ -44,14 +44,14 @@ pub extern "C" fn inarumpit_delete(
     shelf: &mut [u8],
     number: u32,
 ) -> u64
-    ensures { Returns result (kept desk.now) (changed table.old table.new) (changed shelf.old shelf.new) (Call.change (Change.delete number)) }
+    ensures { Returns result (kept desk.now) (rewritten table.old table.new) (rewritten shelf.old shelf.new) (Call.change (Change.delete number)) }
 {
     inarumpit::inarumpit_delete(desk, table, shelf, number)
 }
 
 #[unsafe(no_mangle)]
 pub extern "C" fn inarumpit_begin(desk: &mut [u8], table: &[u8], shelf: &[u8]) -> u64
-    ensures { Returns result (changed desk.old desk.new) (kept table.now) (kept shelf.now) Call.begin }
+    ensures { Returns result (rewritten desk.old desk.new) (kept table.now) (kept shelf.now) Call.begin }
 {
     inarumpit::inarumpit_begin(desk, table, shelf)
 }
@@ -65,7 +65,7 @@ pub extern "C" fn inarumpit_next(
     budget: u32,
     out: &mut [u8],
 ) -> u64
-    ensures { ReturnsOut result (changed desk.old desk.new) (changed table.old table.new) (changed shelf.old shelf.new) (changed out.old out.new) (Call.next ticket budget out.old) }
+    ensures { ReturnsOut result (rewritten desk.old desk.new) (rewritten table.old table.new) (rewritten shelf.old shelf.new) (rewritten out.old out.new) (Call.next ticket budget out.old) }
 {
     inarumpit::inarumpit_next(desk, table, shelf, ticket, budget, out)
 }

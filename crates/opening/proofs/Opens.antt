@@ -1,9 +1,8 @@
 -- The way out of open, from what its steps ensure to the rule.
-use mathlib.Core.Path.{◌≡◌, refl, sym, ap, ◌∙◌}
+use mathlib.Core.Path.{◌≡◌, refl}
 use mathlib.Core.Bool.{true}
 use mathlib.Core.List.{List, []}
 use Prim.Native.Nat.{ℕ, ◌/◌, ◌<◌}
-use native.Mathlib.Omega.{arith}
 use lib.ListN.{length, replicate}
 use Rattle.rules.specs.Answers.{done}
 use Rattle.rules.specs.Masks.{fresh}

@@ -3,14 +3,14 @@
 
 ghost use Rattle.std.specs.Prelude.{◌≡◌, ◌/◌, ◌<◌, length};
 ghost use Rattle.rules.specs.Answers.{change_says};
-ghost use Rattle.rules.specs.Promises.{Tells, changed};
+ghost use Rattle.rules.specs.Promises.{Tells, rewritten};
 ghost use Rattle.rules.specs.Refusals.{Call};
 
 use rules::ChangeAnswer;
 
 pub fn open(desk: &mut [u8], table: &mut [u8], shelf: &mut [u8], n: u32) -> ChangeAnswer
     requires { (length desk.old ≡ 1088) × (length table.old / 64 < 4294967296) × (length shelf.old / 64 < 4294967296) }
-    ensures { Tells (change_says result) (changed desk.old desk.new) (changed table.old table.new) (changed shelf.old shelf.new) (Call.opening n) }
+    ensures { Tells (change_says result) (rewritten desk.old desk.new) (rewritten table.old table.new) (rewritten shelf.old shelf.new) (Call.opening n) }
 {
     if (1 <= n) & (n <= 64) {
         let t = slots::slot_count(table) as u32;

@@ -20,7 +20,7 @@ use Rattle.rules.specs.Next.{Told, told, walk, peeked_at}
 use Rattle.rules.specs.Refusals.{Call, Reading, no_scan, step}
 use Rattle.rules.specs.Sound.{sound}
 use Rattle.rules.proofs.Bytes.{Bytes}
-use Rattle.joins.specs.Walks.{stop_at, moved_to, took_by, took, here_by, here}
+use Rattle.joins.specs.Walks.{stop_at, moved_to, took_by, here_by, here}
 use Rattle.joins.proofs.Cases.{peek-none, peek-goes}
 use Rattle.joins.proofs.Walks.{walk-hit, walk-finished}
 use Rattle.looks.specs.declared.walk.Seen.{Seen}

@@ -2,8 +2,8 @@
 use Rattle.std.specs.Prelude.{Bool, true, false, not, ◌&&◌, List, [], ◌∷◌, ℕ, zero, suc, ◌+◌, eqb, length, get_or, set, replicate}
 use Rattle.std.proofs.Math.Option.{Option, none, some}
 use Rattle.rules.specs.declared.Card.{Card}
-use Rattle.rules.specs.Masks.{Masks, bit, on, off, all_ones, fresh, walk_begun, new_status, m_of}
-use Rattle.rules.specs.Memory.{Slot, slot, free, card, idle, Desk, desk, Store, store, T, R}
+use Rattle.rules.specs.Masks.{bit, on, off, all_ones, fresh, walk_begun, new_status, m_of}
+use Rattle.rules.specs.Memory.{Slot, slot, free, card, idle, desk, Store, store}
 
 -- ---- what is looked for
 

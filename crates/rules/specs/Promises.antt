@@ -16,8 +16,8 @@ pub record Buffer : Type 0 where
 abbrev pub kept : List ℕ → Buffer
 kept l = record { entry = l; exit = l }
 
-abbrev pub changed : List ℕ → List ℕ → Buffer
-changed l m = record { entry = l; exit = m }
+abbrev pub rewritten : List ℕ → List ℕ → Buffer
+rewritten l m = record { entry = l; exit = m }
 
 abbrev pub before : Buffer → Buffer → Buffer → Lent
 before d t s = lent d.entry t.entry s.entry

@@ -1,5 +1,5 @@
 -- A call as the host makes it: its refusals in the order of the test, its effect, and every byte after it.
-use Rattle.std.specs.Prelude.{Bool, true, false, not, ◌&&◌, ◌||◌, List, [], ◌∷◌, ◌++◌, ℕ, ◌+◌, ◌/◌, ◌%◌, ltb, leb, eqb, length, get_or}
+use Rattle.std.specs.Prelude.{Bool, true, false, not, ◌&&◌, ◌||◌, List, [], ◌∷◌, ℕ, ◌+◌, ◌/◌, ◌%◌, ltb, leb, eqb, length, get_or}
 use Rattle.std.proofs.Math.Option.{Option, none, some}
 use Rattle.rules.specs.Answers.{Answer, Shown, done, begun, shown, refused, packed}
 use Rattle.rules.specs.Calls.{bearing, empty_slot, shelf_entry, free_position, position_of, opened, inserted, unawaited, changed, given, used, owed_by}

@@ -4,7 +4,7 @@
 ghost use Rattle.std.specs.Prelude.{◌≡◌, ◌+◌, ◌*◌, ◌-◌, ◌/◌, ◌<◌, length, set};
 ghost use Rattle.rules.specs.Calls.{slot_in};
 ghost use Rattle.rules.specs.Memory.{slots_of, masks_bytes, card_bytes};
-ghost use Rattle.rules.specs.Promises.{changed, kept};
+ghost use Rattle.rules.specs.Promises.{rewritten, kept};
 ghost use Rattle.rules.specs.Next.{turned, flipped, taken};
 ghost use Rattle.layout.specs.Puts.{put};
 ghost use Rattle.joins.specs.Walks.{crossed};
@@ -58,7 +58,7 @@ fn mark_on_shelf(shelf: &mut [u8], k: SlotNumber, p: Position)
 // The scan at p goes on to a place, with so many more handed out to it: its masks and its card.
 fn go_on(desk: &mut [u8], table: &[u8], p: Position, c: Card, m: Masks, place: u32, more: u32)
     requires { CanGoOn desk.old p.0 c (held m) place × (c.handed + more < 4294967296) }
-    ensures { GoesOn (changed desk.old desk.new) (kept table.now) p.0 place (c.handed + more) }
+    ensures { GoesOn (rewritten desk.old desk.new) (kept table.now) p.0 place (c.handed + more) }
 {
     let ticket = c.ticket;
     let end = slots::slot_count(table);
@@ -79,7 +79,7 @@ fn go_on(desk: &mut [u8], table: &[u8], p: Position, c: Card, m: Masks, place: u
 // The scan at p has made its looks and found nothing: it moves on.
 pub fn move_on(desk: &mut [u8], table: &[u8], p: Position, c: Card, m: Masks, looks: u32)
     requires { CanGoOn desk.old p.0 c (held m) (c.place + looks) }
-    ensures { MovesOn (changed desk.old desk.new) (kept table.now) p.0 (c.place + looks) c.handed }
+    ensures { MovesOn (rewritten desk.old desk.new) (kept table.now) p.0 (c.place + looks) c.handed }
 {
     go_on(desk, table, p, c, m, c.place + looks, 0);
 }
@@ -87,7 +87,7 @@ pub fn move_on(desk: &mut [u8], table: &[u8], p: Position, c: Card, m: Masks, lo
 // The scan at p has made its last look and found nothing: its position is free.
 pub fn finish(desk: &mut [u8], table: &[u8], p: Position, c: Card, m: Masks, looks: u32)
     requires { CanGoOn desk.old p.0 c (held m) (c.place + looks) }
-    ensures { Finishes (changed desk.old desk.new) (kept table.now) p.0 (c.place + looks) c.handed }
+    ensures { Finishes (rewritten desk.old desk.new) (kept table.now) p.0 (c.place + looks) c.handed }
 {
     let place = c.place + looks;
     let end = slots::slot_count(table);
@@ -108,7 +108,7 @@ pub fn finish(desk: &mut [u8], table: &[u8], p: Position, c: Card, m: Masks, loo
 // The version at a place, table first, then shelf, is the scan's at p: copied out, and marked in its slot or entry.
 fn take(table: &mut [u8], shelf: &mut [u8], at: usize, p: Position, out: &mut [u8])
     requires { (at < length table.old / 64 + length shelf.old / 64) × (p.0 < 64) × (length out.old ≡ 56) }
-    ensures { Takes (changed table.old table.new) (changed shelf.old shelf.new) (changed out.old out.new) p.0 at }
+    ensures { Takes (rewritten table.old table.new) (rewritten shelf.old shelf.new) (rewritten out.old out.new) p.0 at }
 {
     let end = slots::slot_count(table);
     if at < end {
@@ -132,7 +132,7 @@ pub fn hand_out(
     out: &mut [u8],
 )
     requires { CanHandOut desk.old table.old shelf.old out.old p.0 c (held m) looks }
-    ensures { HandsOut (changed desk.old desk.new) (changed table.old table.new) (changed shelf.old shelf.new) (changed out.old out.new) p.0 (c.place + looks - 1) }
+    ensures { HandsOut (rewritten desk.old desk.new) (rewritten table.old table.new) (rewritten shelf.old shelf.new) (rewritten out.old out.new) p.0 (c.place + looks - 1) }
 {
     let place = c.place + looks;
     go_on(desk, table, p, c, m, place, 1);

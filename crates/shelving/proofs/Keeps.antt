@@ -4,11 +4,10 @@ use mathlib.Core.Bool.{Bool, true, false}
 use mathlib.Core.List.{List}
 use Prim.Native.Nat.{ℕ, ◌+◌, ◌*◌, ◌-◌, ◌/◌, ◌≤◌, ◌<◌}
 use native.Mathlib.Omega.{arith}
-use lib.Dec.{ltb, eqb}
 use lib.ListN.{length}
 use borrow.Author.Tests.{eqb-true, eqb-false, eq-eqb, ne_eqb, ltb-true, ltb-false, lt-ltb, le-ltb}
 use Rattle.rules.specs.Calls.{first}
-use Rattle.rules.specs.Masks.{Masks, ones, all_ones, m_of}
+use Rattle.rules.specs.Masks.{Masks, ones}
 use Rattle.rules.specs.Memory.{slots_of}
 use Rattle.rules.specs.Bytes.{field}
 use Rattle.layout.specs.Puts.{put, put64}

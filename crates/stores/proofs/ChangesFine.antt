@@ -14,7 +14,7 @@ use borrow.Author.Tests.{lt-ltb}
 use Rattle.rules.specs.Passed.{All, Byte}
 use Rattle.rules.specs.Calls.{slot_in, empty_slot, shelf_entry, present, replaced, inserted, changed_by, given, opened}
 use Rattle.rules.specs.Masks.{from, Masks, walk_begun, new_status, m_of, REMSET_MASK_INS, STATUS_MASK_UPD}
-use Rattle.rules.specs.Memory.{Slot, slot, free, card, idle, desk, Store, store, T, R}
+use Rattle.rules.specs.Memory.{Slot, slot, free, card, idle, Store, store, T, R}
 use Rattle.rules.specs.Sound.{all_zero, n_in_range}
 use Rattle.rules.proofs.Bits.{not_small, bit-ones}
 use Rattle.rules.proofs.TableOne.{clear_own}

@@ -8,7 +8,7 @@ use lib.ListN.{length, drop, get_or, length-append, length-drop}
 use lib.Seq.{take_at, drop-append-add, drop-append-le, take-append-le, ext_get_or}
 use Rattle.rules.specs.declared.Card.{Card}
 use Rattle.rules.specs.Bytes.{le, to_le, field, u32_at, u64_at}
-use Rattle.rules.specs.Memory.{Slot, free, idle, Desk, desk, Store, each, slot_at, slots_of, card_at, desk_of, store_of, read, joined, version, slot_bytes, card_bytes, masks_bytes, desk_bytes, written}
+use Rattle.rules.specs.Memory.{Slot, free, idle, Desk, Store, each, slot_at, slots_of, card_at, desk_of, store_of, read, joined, version, slot_bytes, card_bytes, masks_bytes, desk_bytes, written}
 use Rattle.rules.proofs.Bytes.{length-to_le, le_to_le, field-all}
 use Rattle.rules.proofs.Each.{length-each, at_each}
 use Rattle.stores.proofs.Sizes.{CardSized, SlotSized, DeskSized, Sized}

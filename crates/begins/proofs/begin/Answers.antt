@@ -1,5 +1,3 @@
--- a position is free
--- and a ticket is left
 use mathlib.Core.Path.{◌≡◌, sym, ◌∙◌}
 use Prim.Native.Nat.{◌<◌}
 use native.Mathlib.Omega.{arith}

@@ -1,5 +1,3 @@
--- a number is given, and its bearer is sought
--- the bearer is found
 use mathlib.Core.Path.{◌≡◌, sym, ◌∙◌}
 use Prim.Native.Nat.{ℕ, ◌/◌, ◌<◌}
 use native.Mathlib.Omega.{arith}

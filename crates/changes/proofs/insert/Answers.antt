@@ -1,7 +1,3 @@
--- a number is given
--- and a body of a right kind, and the table is sought through
--- no slot bears the number
--- and one is empty
 use mathlib.Core.Path.{◌≡◌, sym, ◌∙◌}
 use mathlib.Core.Bool.{true}
 use Prim.Native.Nat.{◌/◌, ◌≤◌, ◌<◌}

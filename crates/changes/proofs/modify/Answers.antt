@@ -1,6 +1,3 @@
--- a number is given
--- and a body of a right kind, and its bearer is sought
--- the bearer is found
 use mathlib.Core.Path.{◌≡◌, sym, ◌∙◌}
 use mathlib.Core.Bool.{true}
 use Prim.Native.Nat.{ℕ, ◌/◌, ◌<◌}

@@ -1,7 +1,7 @@
 use native.Mathlib.Nat.{sub-zero, zero-add}
 use Rattle.joins.proofs.Search.{one_if, count_turn, count_end}
 use mathlib.Core.Path.{refl, ap, ◌∙◌}
-use Prim.Native.Nat.{◌-◌, ◌/◌}
+use Prim.Native.Nat.{◌/◌}
 use native.Mathlib.Omega.{arith}
 use lib.ListN.{length}
 use Rattle.rules.specs.Calls.{count, in_use}

@@ -1,5 +1,4 @@
 use mathlib.Core.Path.{ap, ◌∙◌}
-use Prim.Native.Nat.{◌-◌}
 use native.Mathlib.Omega.{arith}
 use Rattle.joins.proofs.Search.{one_if}
 use Rattle.counts.proofs.Counting.{from_first, from_last, from_turn, from-past-empty}

@@ -1,4 +1,3 @@
--- the scan's card and the start, from its masks
 use Prim.Native.Nat.{ℕ, ◌+◌, ◌/◌, ◌≤◌}
 use mathlib.Core.Bool.{Bool}
 use native.Mathlib.Omega.{arith}

@@ -1,8 +1,7 @@
-use Rattle.layout.specs.Puts.{put}
 use Rattle.layout.proofs.Fields.{put-none}
 use Rattle.std.proofs.Common.{rules}
 use mathlib.Core.Path.{◌≡◌, ◌∙◌}
-use Prim.Native.Nat.{ℕ, ◌<◌, ◌-◌}
+use Prim.Native.Nat.{ℕ, ◌<◌}
 use native.Mathlib.Nat.{zero-add}
 use native.Mathlib.Omega.{arith}
 use lib.ListN.{length, length-set, replicate, length-replicate, get_or-replicate}

@@ -1,5 +1,4 @@
 use mathlib.Core.Path.{sym, ◌∙◌}
-use Prim.Native.Nat.{◌-◌}
 use native.Mathlib.Omega.{arith}
 use Rattle.rules.proofs.First.{first_miss}
 use Rattle.desk.specs.Tickets.{bears_ticket}

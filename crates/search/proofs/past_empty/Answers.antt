@@ -1,5 +1,5 @@
 use mathlib.Core.Path.{◌∙◌}
-use Prim.Native.Nat.{◌+◌, ◌-◌}
+use Prim.Native.Nat.{◌+◌}
 use native.Mathlib.Omega.{arith}
 use Rattle.rules.specs.Memory.{slots_of}
 use Rattle.search.specs.Passed.{used_at}

@@ -1,4 +1,3 @@
--- the way in is open
 use mathlib.Core.Path.{refl}
 use native.Mathlib.Omega.{arith}
 use Rattle.rules.specs.Answers.{change_says}

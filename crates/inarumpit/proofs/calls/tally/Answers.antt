@@ -1,4 +1,3 @@
--- the way in is open
 use native.Mathlib.Omega.{arith}
 use Rattle.rules.specs.Answers.{tally_says}
 use Rattle.rules.specs.Refusals.{Call, Reading, own_right, looks_at_desk, refused_as, out_of}

@@ -1,5 +1,3 @@
--- a record is neither a spent budget nor the end
--- the card, the counts of slots and the start, from the walk
 use mathlib.Core.Logic.{◌⊎◌, ⊎_elim}
 use mathlib.Core.Path.{◌≡◌, ap, ◌∙◌}
 use mathlib.Core.Bool.{Bool}
@@ -14,6 +12,7 @@ use Rattle.running.proofs.Sought.{record-some}
 use Rattle.readings.proofs.Peeks.{found_table, found_shelf, found_nothing}
 use Rattle.readings.proofs.peek.found_at.Goals as goal
 
+-- a record is neither a spent budget nor the end
 other : (◌≡◌ {A = ℕ} 0 1) ⊎ (◌≡◌ {A = ℕ} 0 2) → ⊥
 other = ⊎_elim (λ e. omega arith) (λ e. omega arith)
 

@@ -1,4 +1,3 @@
-use Prim.Native.Nat.{◌-◌}
 use native.Mathlib.Omega.{arith}
 use Rattle.soundness.specs.Words.{zero_word}
 use Rattle.soundness.proofs.WordsRead.{words_more, words_all}
