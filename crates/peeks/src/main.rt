@@ -1,6 +1,8 @@
 // Peek against next with unbounded budget on copies, over seeded sequences of calls on small stores.
 #![tactic(auto)]
 
+use std::io;
+
 mod compare;
 mod dice;
 mod hostile;
@@ -8,12 +10,10 @@ mod seen;
 mod sequence;
 mod turn;
 
-fn main() {
+fn main(rt: HostRuntime) -> io::Result<()> {
     let mut so_far = seen::Seen::nothing();
-    let mut number: u32 = 0;
-    while number < 400 {
-        so_far = sequence::run(number, so_far);
-        number += 1;
+    for number in 0..400 {
+        so_far = sequence::run(&rt, number, so_far)?;
     }
-    so_far.tell(400);
+    so_far.tell(&rt, 400)
 }

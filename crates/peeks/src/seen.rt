@@ -1,5 +1,5 @@
 // What was seen over all sequences.
-use std::num::wrapping_add_u32;
+use std::io;
 
 // Peek beside next with unbounded budget.
 #[derive(Clone, Copy)]
@@ -28,35 +28,35 @@ impl Seen {
     }
 
     pub fn called(mut self) -> Self {
-        self.calls = wrapping_add_u32(self.calls, 1);
+        self.calls = self.calls.wrapping_add(1);
         self
     }
 
     pub fn compared(mut self, c: Compared) -> Self {
         match c {
-            Compared::InHand => self.in_hand = wrapping_add_u32(self.in_hand, 1),
-            Compared::Empty => self.empty = wrapping_add_u32(self.empty, 1),
-            Compared::Different => self.differences = wrapping_add_u32(self.differences, 1),
+            Compared::InHand => self.in_hand = self.in_hand.wrapping_add(1),
+            Compared::Empty => self.empty = self.empty.wrapping_add(1),
+            Compared::Different => self.differences = self.differences.wrapping_add(1),
         }
         self
     }
 
-    pub fn tell(self, sequences: u32) {
-        named(sequences, b" sequences, ");
-        named(self.calls, b" calls, ");
-        named(self.differences, b" differences\n");
-        named(self.in_hand, b" peeks in hand, ");
-        named(self.empty, b" empty\n");
+    pub fn tell(self, rt: &impl Print, sequences: u32) -> io::Result<()> {
+        named(rt, sequences, b" sequences, ")?;
+        named(rt, self.calls, b" calls, ")?;
+        named(rt, self.differences, b" differences\n")?;
+        named(rt, self.in_hand, b" peeks in hand, ")?;
+        named(rt, self.empty, b" empty\n")
     }
 }
 
-fn named(x: u32, text: &[u8]) {
-    io::print_decimal(1, x as u64);
-    io::write_all(1, text);
+fn named(rt: &impl Print, x: u32, text: &[u8]) -> io::Result<()> {
+    print!(rt; "{x}")?;
+    rt.write_all(text)
 }
 
-pub fn tell_difference(sequence: u32, call: u32) {
-    io::write_all(1, b"sequence ");
-    named(sequence, b", call ");
-    named(call, b": peek differs\n");
+pub fn tell_difference(rt: &impl Print, sequence: u32, call: u32) -> io::Result<()> {
+    rt.write_all(b"sequence ")?;
+    named(rt, sequence, b", call ")?;
+    named(rt, call, b": peek differs\n")
 }

@@ -3,6 +3,7 @@ use crate::dice::roll;
 use crate::seen::{Compared, Seen};
 use crate::{compare, hostile, seen, turn};
 use inarumpit::calls;
+use std::io;
 
 // Peek compared, and then next.
 fn peek_then_next(
@@ -52,28 +53,40 @@ fn one(
 }
 
 // The store opened and fifty calls, each counted; one where peek differs is told by its number.
-fn opened(number: u32, state: &mut u32, table: &mut [u8], shelf: &mut [u8], before: Seen) -> Seen {
+fn opened(
+    rt: &impl Print,
+    number: u32,
+    state: &mut u32,
+    table: &mut [u8],
+    shelf: &mut [u8],
+    before: Seen,
+) -> io::Result<Seen> {
     let mut desk = [0u8; 1088];
     calls::open(&mut desk, table, shelf, 1 + roll(state, 4));
     let mut so_far = before.called();
-    let mut call: u32 = 0;
-    while call < 50 {
+    for call in 0..50 {
         let after = one(state, &mut desk, table, shelf, so_far.called());
         if after.differences != so_far.differences {
-            seen::tell_difference(number, call);
+            seen::tell_difference(rt, number, call)?;
         }
         so_far = after;
-        call += 1;
     }
-    so_far
+    Ok(so_far)
 }
 
 // Sequence `number`: T 1 to 8, R 1 to 16, N 1 to 4.
-pub fn run(number: u32, so_far: Seen) -> Seen {
+pub fn run(rt: &impl Print, number: u32, so_far: Seen) -> io::Result<Seen> {
     let mut state = number;
     let mut table = [0u8; 512];
     let mut shelf = [0u8; 1024];
-    let t = io::count((64 + roll(&mut state, 8) * 64) as isize, &table);
-    let r = io::count((64 + roll(&mut state, 16) * 64) as isize, &shelf);
-    opened(number, &mut state, &mut table[..t], &mut shelf[..r], so_far)
+    let t = table.len().min((64 + roll(&mut state, 8) * 64) as usize);
+    let r = shelf.len().min((64 + roll(&mut state, 16) * 64) as usize);
+    opened(
+        rt,
+        number,
+        &mut state,
+        &mut table[..t],
+        &mut shelf[..r],
+        so_far,
+    )
 }

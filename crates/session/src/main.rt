@@ -2,13 +2,16 @@
 // document's figures.
 #![tactic(auto)]
 
+use std::io;
+use std::io::Read;
+
 mod show;
 mod step;
 mod text;
 mod turn;
 
 // One line after another, on buffers that are all there from the first.
-fn play(script: &[u8]) {
+fn play(rt: &impl Print, script: &[u8]) -> io::Result<()> {
     let mut desk = [0u8; 1088];
     let mut table = [0u8; 256];
     let mut shelf = [0u8; 512];
@@ -16,13 +19,15 @@ fn play(script: &[u8]) {
     let mut at: usize = 0;
     while at < script.len() {
         let end = text::line_end(script, at);
-        lent = step::step(&script[at..end], &mut desk, &mut table, &mut shelf, lent);
+        let line = &script[at..end];
+        lent = step::step(rt, line, &mut desk, &mut table, &mut shelf, lent)?;
         at = end + 1;
     }
+    Ok(())
 }
 
-fn main() {
-    let mut script = io::buffer();
-    let n = io::read_full(0, &mut script);
-    play(&script[..n]);
+fn main(rt: HostRuntime) -> io::Result<()> {
+    let mut script = Vec::new(rt.alloc());
+    rt.reader().read_to_end(&mut script)?;
+    play(&rt, &script)
 }

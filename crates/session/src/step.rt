@@ -1,8 +1,9 @@
 // One line of a script: a call on the parts that are lent, or something done to the buffers.
 use crate::{show, text, turn};
+use std::io;
 
 // How many bytes of desk, table, shelf, body and hand-out buffer are lent.
-#[derive(Drop)]
+#[derive(Clone, Copy)]
 pub struct Lent {
     desk: u32,
     table: u32,
@@ -40,75 +41,69 @@ fn alter(line: &[u8], desk: &mut [u8; 1088]) {
 }
 
 // What the C host is returned by next, on copies of the buffers.
-fn returned(line: &[u8], desk: [u8; 1088], table: [u8; 256], shelf: [u8; 512]) {
+fn returned(
+    rt: &impl Print,
+    line: &[u8],
+    desk: [u8; 1088],
+    table: [u8; 256],
+    shelf: [u8; 512],
+) -> io::Result<()> {
     let ticket = text::word(line, 1);
     let budget = text::word(line, 2);
     let mut d = desk;
     let mut t = table;
     let mut s = shelf;
     let mut out = [0u8; 56];
-    show::words(b"C return value ");
-    io::print_decimal(
-        1,
-        inarumpit::inarumpit_next(&mut d, &mut t, &mut s, ticket, budget, &mut out),
-    );
-    show::words(b"\n");
+    let back = inarumpit::inarumpit_next(&mut d, &mut t, &mut s, ticket, budget, &mut out);
+    println!(rt; "C return value {back}")
 }
 
-fn call(line: &[u8], desk: &mut [u8], table: &mut [u8], shelf: &mut [u8], lent: Lent) {
-    let d = io::count(lent.desk as isize, desk);
-    let t = io::count(lent.table as isize, table);
-    let s = io::count(lent.shelf as isize, shelf);
+fn call(
+    rt: &impl Print,
+    line: &[u8],
+    desk: &mut [u8],
+    table: &mut [u8],
+    shelf: &mut [u8],
+    lent: Lent,
+) -> io::Result<()> {
+    let d = desk.len().min(lent.desk as usize);
+    let t = table.len().min(lent.table as usize);
+    let s = shelf.len().min(lent.shelf as usize);
     turn::turn(
+        rt,
         line,
         &mut desk[..d],
         &mut table[..t],
         &mut shelf[..s],
         lent.body,
         lent.out,
-    );
+    )
 }
 
-fn write(line: &[u8]) {
+fn write(rt: &impl Print, line: &[u8]) -> io::Result<()> {
     if line.len() > 6 {
-        show::words(&line[6..]);
+        show::words(rt, &line[6..])?;
     }
-    show::words(b"\n");
+    show::words(rt, b"\n")
 }
 
 // The first letter tells what is to be done; the lengths that are lent from then on.
 pub fn step(
+    rt: &impl Print,
     line: &[u8],
     desk: &mut [u8; 1088],
     table: &mut [u8; 256],
     shelf: &mut [u8; 512],
     lent: Lent,
-) -> Lent {
+) -> io::Result<Lent> {
     match text::letter(line, 0) {
-        b'l' => lengths(line),
-        b'f' => {
-            fill(line, desk, table, shelf);
-            lent
-        }
-        b'a' => {
-            alter(line, desk);
-            lent
-        }
-        b'r' => {
-            returned(line, *desk, *table, *shelf);
-            lent
-        }
-        b's' => {
-            show::memory(desk, table, shelf, lent.table, lent.shelf);
-            lent
-        }
-        b'w' => {
-            write(line);
-            lent
-        }
-        _ => {
-            call(line, desk, table, shelf, lent);
-            lent
-        }
+        b'l' => return Ok(lengths(line)),
+        b'f' => fill(line, desk, table, shelf),
+        b'a' => alter(line, desk),
+        b'r' => returned(rt, line, *desk, *table, *shelf)?,
+        b's' => show::memory(rt, desk, table, shelf, lent.table, lent.shelf)?,
+        b'w' => write(rt, line)?,
+        _ => call(rt, line, desk, table, shelf, lent)?,
     }
+    Ok(lent)
 }

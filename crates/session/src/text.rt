@@ -1,21 +1,17 @@
 // The lines of a script and their words.
 ghost use Rattle.std.specs.Prelude.{◌≤◌, length};
 
-use std::num::wrapping_add_u32;
-
 // Where the line ends that begins at `at`.
 pub fn line_end(text: &[u8], at: usize) -> usize
     requires { at ≤ length text.now }
     ensures { (at ≤ result) × (result ≤ length text.now) }
 {
-    let mut i = at;
-    while i < text.len() {
+    for i in at..text.len() {
         if text[i] == b'\n' {
-            break;
+            return i;
         }
-        i += 1;
     }
-    i
+    text.len()
 }
 
 // The letter at i; 0 past the end.
@@ -34,15 +30,12 @@ fn with(x: u32, c: u8) -> u32 {
 pub fn word(line: &[u8], blanks: u32) -> u32 {
     let mut seen: u32 = 0;
     let mut x: u32 = 0;
-    let mut i: usize = 0;
-    while i < line.len() {
-        let c = line[i];
-        if c == b' ' {
-            seen = wrapping_add_u32(seen, 1);
+    for c in line {
+        if *c == b' ' {
+            seen = seen.wrapping_add(1);
         } else if seen == blanks {
-            x = with(x, c);
+            x = with(x, *c);
         }
-        i += 1;
     }
     x
 }
