@@ -44,7 +44,7 @@ target/EDITS.md: tools/edits crates.txt crates/*/must-fail $(wildcard crates/*/m
 ## removes all that was built, the proofs too
 clean:
 	@rm -rf target bench/out crates/*/out
-	@echo 'clean: removed target and bench/out'
+	@echo 'clean: removed target, bench/out and crates/*/out'
 
 include tools/compilers.mk
 include second/second.mk

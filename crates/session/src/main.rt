@@ -10,6 +10,9 @@ mod step;
 mod text;
 mod turn;
 
+// How many bytes of a script are read.
+const SCRIPT_BYTES: u64 = 4096;
+
 // One line after another, on buffers that are all there from the first.
 fn play(rt: &impl Print, script: &[u8]) -> io::Result<()> {
     let mut desk = [0u8; 1088];
@@ -28,6 +31,6 @@ fn play(rt: &impl Print, script: &[u8]) -> io::Result<()> {
 
 fn main(rt: HostRuntime) -> io::Result<()> {
     let mut script = Vec::new(rt.alloc());
-    rt.reader().read_to_end(&mut script)?;
+    rt.reader().take(SCRIPT_BYTES).read_to_end(&mut script)?;
     play(&rt, &script)
 }
