@@ -47,7 +47,8 @@ pub fn begin(desk: &mut [u8]) -> BeginAnswer
     ensures { TellsOverAnySlots (begin_says result) (rewritten desk.old desk.new) Call.begin }
 {
     let p = positions::free_position(desk);
-    if p.below(desk::n(desk)) {
+    let is_free = p.below(desk::n(desk));
+    if is_free {
         let last = desk::last_ticket(desk);
         if last.is_last() {
             return BeginAnswer::Refused(11);

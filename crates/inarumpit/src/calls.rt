@@ -135,7 +135,8 @@ pub fn owed(desk: &[u8], table: &[u8], shelf: &[u8], ticket: Ticket) -> OwedAnsw
 pub fn peek<'a>(desk: &[u8], table: &'a [u8], shelf: &'a [u8], ticket: Ticket) -> &'a [u8]
     ensures { Answers (Answer.shown (Shown.part result.now)) (kept desk.now) (kept table.now) (kept shelf.now) (Call.reading (Reading.peek ticket.0)) × NoCopy result desk.entry table.entry shelf.entry ticket.0 }
 {
-    if way_in(desk, table, shelf) == 0 {
+    let is_open = way_in(desk, table, shelf) == 0;
+    if is_open {
         return readings::peek::peek(desk, table, shelf, ticket);
     }
     &table[0..0]

@@ -48,7 +48,8 @@ fn mark_on_shelf(shelf: &mut [u8], k: SlotNumber, p: Position)
     ensures { slots_of shelf.new ≡ set (slots_of shelf.old) k.0 (taken (slot_in (slots_of shelf.old) k.0) p.0) }
 {
     let mask = masks::scan_mask(p) | slots::mask_at(shelf, k);
-    if mask == Masks::ALL_ONES {
+    let is_handed = mask == Masks::ALL_ONES;
+    if is_handed {
         slots::write::free(shelf, k);
         return;
     }
