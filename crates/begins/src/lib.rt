@@ -5,7 +5,7 @@ ghost use Rattle.std.specs.Prelude.{◌≡◌, ◌+◌, ◌*◌, ◌≤◌, ◌<
 ghost use Rattle.rules.specs.Answers.{begin_says};
 ghost use Rattle.rules.specs.Bytes.{u32_at};
 ghost use Rattle.rules.specs.Promises.{TellsOverAnySlots, rewritten};
-ghost use Rattle.rules.specs.Masks.{walk_begun as begunMasks};
+ghost use Rattle.rules.specs.Masks.{walk_begun as begun_masks};
 ghost use Rattle.rules.specs.Memory.{card, masks_bytes, card_bytes};
 ghost use Rattle.rules.specs.Refusals.{Call};
 ghost use Rattle.layout.specs.Puts.{put, put32};
@@ -27,7 +27,7 @@ fn give_ticket(desk: &mut [u8], last: Ticket) -> Ticket
 // The scan of a ticket takes position p, at place 0.
 fn seat(desk: &mut [u8], ticket: Ticket, p: Position, m: Masks)
     requires { (length desk.old ≡ 1088) × (p.0 < 64) }
-    ensures { desk.new ≡ put (put desk.old 16 (masks_bytes (begunMasks (held m) p.0))) (64 + p.0 * 16) (card_bytes (card ticket.0 0 0 0)) }
+    ensures { desk.new ≡ put (put desk.old 16 (masks_bytes (begun_masks (held m) p.0))) (64 + p.0 * 16) (card_bytes (card ticket.0 0 0 0)) }
 {
     desk::write::put_masks(desk, m.begun(p));
     desk::write::put_card(

@@ -18,7 +18,8 @@ fn kind_right(body: &[u8]) -> bool
 
 pub fn insert(desk: &[u8], table: &mut [u8], k: RecordNumber, body: &[u8]) -> ChangeAnswer
     requires { (length desk.now ≡ 1088) × (length body.now ≡ 52) }
-    ensures { TellsOverAnyShelf (change_says result) (kept desk.now) (rewritten table.old table.new) (Call.change (Change.insert k.0 body.now)) }
+    ensures { TellsOverAnyShelf (change_says result) (kept desk.now) (rewritten table.old table.new)
+        (Call.change (Change.insert k.0 body.now)) }
 {
     if k.word() == 0 {
         return ChangeAnswer::Refused(3);
@@ -48,7 +49,8 @@ pub fn modify(
     body: &[u8],
 ) -> ChangeAnswer
     requires { (length desk.now ≡ 1088) × (length body.now ≡ 52) }
-    ensures { Tells (change_says result) (kept desk.now) (rewritten table.old table.new) (rewritten shelf.old shelf.new) (Call.change (Change.modify k.0 body.now)) }
+    ensures { Tells (change_says result) (kept desk.now) (rewritten table.old table.new)
+        (rewritten shelf.old shelf.new) (Call.change (Change.modify k.0 body.now)) }
 {
     if k.is_none() {
         return ChangeAnswer::Refused(3);
@@ -80,7 +82,8 @@ pub fn modify(
 
 pub fn delete(desk: &[u8], table: &mut [u8], shelf: &mut [u8], k: RecordNumber) -> ChangeAnswer
     requires { length desk.now ≡ 1088 }
-    ensures { Tells (change_says result) (kept desk.now) (rewritten table.old table.new) (rewritten shelf.old shelf.new) (Call.change (Change.delete k.0)) }
+    ensures { Tells (change_says result) (kept desk.now) (rewritten table.old table.new)
+        (rewritten shelf.old shelf.new) (Call.change (Change.delete k.0)) }
 {
     if k.is_none() {
         return ChangeAnswer::Refused(3);

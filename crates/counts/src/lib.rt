@@ -2,9 +2,9 @@
 #![tactic(auto)]
 
 ghost use Rattle.std.specs.Prelude.{◌≡◌, ◌+◌, ◌/◌, ◌≤◌, ◌<◌, length};
-ghost use Rattle.rules.specs.Calls.{used as usedOf, count};
+ghost use Rattle.rules.specs.Calls.{used as used_of, count};
 ghost use Rattle.rules.specs.Memory.{slot_at, slots_of};
-ghost use Rattle.joins.specs.Search.{waiting as waitingIn};
+ghost use Rattle.joins.specs.Search.{waiting as waiting_in};
 ghost use Rattle.joins.proofs.Search.{one_if};
 ghost use Rattle.counts.specs.Waiting.{Counted};
 
@@ -19,7 +19,7 @@ fn one_if(b: bool) -> u32
 // The slots in use.
 pub fn used(slots: &[u8]) -> u32
     requires { length slots.now / 64 < 4294967296 }
-    ensures { result ≡ usedOf (slots_of slots.now) }
+    ensures { result ≡ used_of (slots_of slots.now) }
 {
     let end = slots::slot_count(slots);
     let mut n: u32 = 0;
@@ -34,7 +34,7 @@ pub fn used(slots: &[u8]) -> u32
 // Whether the scan at p waits for the version in slot i.
 fn waits(slots: &[u8], i: usize, flip: u64, p: Position) -> bool
     requires { (i < length slots.now / 64) × (p.0 < 64) }
-    ensures { result ≡ waitingIn flip p.0 (slot_at slots.now i) }
+    ensures { result ≡ waiting_in flip p.0 (slot_at slots.now i) }
 {
     let here = SlotNumber(i);
     slots::in_use(slots, here) & !masks::has_bit(flip ^ slots::mask_at(slots, here), p)
@@ -87,7 +87,7 @@ fn run_in_use(slots: &[u8], from: usize, flip: u64, p: Position) -> Run
 // The versions that the scan at p waits for.
 pub fn waiting(slots: &[u8], flip: u64, p: Position) -> u32
     requires { (length slots.now / 64 < 4294967296) × (p.0 < 64) }
-    ensures { result ≡ count (waitingIn flip p.0) (slots_of slots.now) }
+    ensures { result ≡ count (waiting_in flip p.0) (slots_of slots.now) }
 {
     let end = slots::slot_count(slots);
     let mut n: u32 = 0;

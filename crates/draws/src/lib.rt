@@ -21,7 +21,9 @@ pub fn next(
     out: &mut [u8],
 ) -> NextAnswer
     requires { Ready desk.old table.old shelf.old × (length out.old ≡ 56) }
-    ensures { TellsOut (next_says result) (rewritten desk.old desk.new) (rewritten table.old table.new) (rewritten shelf.old shelf.new) (rewritten out.old out.new) (Call.next ticket.0 budget out.old) }
+    ensures { TellsOut (next_says result) (rewritten desk.old desk.new) (rewritten table.old table.new)
+        (rewritten shelf.old shelf.new) (rewritten out.old out.new)
+        (Call.next ticket.0 budget out.old) }
 {
     let p = running::scan_of(desk, ticket);
     if p.below(64) {
@@ -40,7 +42,8 @@ fn go_on(
     out: &mut [u8],
 ) -> NextAnswer
     requires { Ready desk.old table.old shelf.old × (length out.old ≡ 56) × Runs desk.old p.0 }
-    ensures { told (next_says result) (store_of desk.new table.new shelf.new) out.new ≡ walk (store_of desk.old table.old shelf.old) p.0 budget 0 out.old }
+    ensures { told (next_says result) (store_of desk.new table.new shelf.new) out.new
+        ≡ walk (store_of desk.old table.old shelf.old) p.0 budget 0 out.old }
 {
     let card = desk::card_at(desk, p);
     let m = desk::masks_at(desk);

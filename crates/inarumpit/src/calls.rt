@@ -34,7 +34,8 @@ fn own_way_in(own: bool, desk: &[u8], table: &[u8], shelf: &[u8]) -> u8
 }
 
 pub fn open(desk: &mut [u8], table: &mut [u8], shelf: &mut [u8], n: u32) -> ChangeAnswer
-    ensures { Answers (change_says result) (rewritten desk.old desk.new) (rewritten table.old table.new) (rewritten shelf.old shelf.new) (Call.opening n) }
+    ensures { Answers (change_says result) (rewritten desk.old desk.new) (rewritten table.old table.new)
+        (rewritten shelf.old shelf.new) (Call.opening n) }
 {
     if numbers::lengths::lengths_right(desk.len(), table.len(), shelf.len()) {
         return opening::open(desk, table, shelf, n);
@@ -49,7 +50,8 @@ pub fn insert(
     k: RecordNumber,
     body: &[u8],
 ) -> ChangeAnswer
-    ensures { Answers (change_says result) (kept desk.now) (rewritten table.old table.new) (kept shelf.now) (Call.change (Change.insert k.0 body.now)) }
+    ensures { Answers (change_says result) (kept desk.now) (rewritten table.old table.new)
+        (kept shelf.now) (Call.change (Change.insert k.0 body.now)) }
 {
     let shut = own_way_in(body.len() == 52, desk, table, shelf);
     if shut == 0 {
@@ -65,7 +67,8 @@ pub fn modify(
     k: RecordNumber,
     body: &[u8],
 ) -> ChangeAnswer
-    ensures { Answers (change_says result) (kept desk.now) (rewritten table.old table.new) (rewritten shelf.old shelf.new) (Call.change (Change.modify k.0 body.now)) }
+    ensures { Answers (change_says result) (kept desk.now) (rewritten table.old table.new)
+        (rewritten shelf.old shelf.new) (Call.change (Change.modify k.0 body.now)) }
 {
     let shut = own_way_in(body.len() == 52, desk, table, shelf);
     if shut == 0 {
@@ -75,7 +78,8 @@ pub fn modify(
 }
 
 pub fn delete(desk: &[u8], table: &mut [u8], shelf: &mut [u8], k: RecordNumber) -> ChangeAnswer
-    ensures { Answers (change_says result) (kept desk.now) (rewritten table.old table.new) (rewritten shelf.old shelf.new) (Call.change (Change.delete k.0)) }
+    ensures { Answers (change_says result) (kept desk.now) (rewritten table.old table.new)
+        (rewritten shelf.old shelf.new) (Call.change (Change.delete k.0)) }
 {
     let shut = way_in(desk, table, shelf);
     if shut == 0 {
@@ -102,7 +106,9 @@ pub fn next(
     budget: u32,
     out: &mut [u8],
 ) -> NextAnswer
-    ensures { HandsOut (next_says result) (rewritten desk.old desk.new) (rewritten table.old table.new) (rewritten shelf.old shelf.new) (rewritten out.old out.new) (Call.next ticket.0 budget out.old) }
+    ensures { HandsOut (next_says result) (rewritten desk.old desk.new) (rewritten table.old table.new)
+        (rewritten shelf.old shelf.new) (rewritten out.old out.new)
+        (Call.next ticket.0 budget out.old) }
 {
     let shut = own_way_in(out.len() == 56, desk, table, shelf);
     if shut == 0 {
@@ -112,7 +118,8 @@ pub fn next(
 }
 
 pub fn tally(desk: &[u8], table: &[u8], shelf: &[u8]) -> TallyAnswer
-    ensures { Answers (tally_says result) (kept desk.now) (kept table.now) (kept shelf.now) (Call.reading Reading.tally) }
+    ensures { Answers (tally_says result) (kept desk.now) (kept table.now) (kept shelf.now)
+        (Call.reading Reading.tally) }
 {
     let shut = way_in(desk, table, shelf);
     if shut == 0 {
@@ -122,7 +129,8 @@ pub fn tally(desk: &[u8], table: &[u8], shelf: &[u8]) -> TallyAnswer
 }
 
 pub fn owed(desk: &[u8], table: &[u8], shelf: &[u8], ticket: Ticket) -> OwedAnswer
-    ensures { Answers (owed_says result) (kept desk.now) (kept table.now) (kept shelf.now) (Call.reading (Reading.owed ticket.0)) }
+    ensures { Answers (owed_says result) (kept desk.now) (kept table.now) (kept shelf.now)
+        (Call.reading (Reading.owed ticket.0)) }
 {
     let shut = way_in(desk, table, shelf);
     if shut == 0 {
@@ -133,7 +141,9 @@ pub fn owed(desk: &[u8], table: &[u8], shelf: &[u8], ticket: Ticket) -> OwedAnsw
 
 // The 56 bytes that next with unbounded budget would hand out, as a part of table or shelf; an empty part in every other case.
 pub fn peek<'a>(desk: &[u8], table: &'a [u8], shelf: &'a [u8], ticket: Ticket) -> &'a [u8]
-    ensures { Answers (Answer.shown (Shown.part result.now)) (kept desk.now) (kept table.now) (kept shelf.now) (Call.reading (Reading.peek ticket.0)) × NoCopy result desk.entry table.entry shelf.entry ticket.0 }
+    ensures { Answers (Answer.shown (Shown.part result.now)) (kept desk.now) (kept table.now)
+        (kept shelf.now) (Call.reading (Reading.peek ticket.0))
+        × NoCopy result desk.entry table.entry shelf.entry ticket.0 }
 {
     let is_open = way_in(desk, table, shelf) == 0;
     if is_open {

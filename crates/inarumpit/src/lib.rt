@@ -9,7 +9,8 @@ use rules::{RecordNumber, Ticket};
 pub mod calls;
 
 pub fn inarumpit_open(desk: &mut [u8], table: &mut [u8], shelf: &mut [u8], n: u32) -> u64
-    ensures { Returns result (rewritten desk.old desk.new) (rewritten table.old table.new) (rewritten shelf.old shelf.new) (Call.opening n) }
+    ensures { Returns result (rewritten desk.old desk.new) (rewritten table.old table.new)
+        (rewritten shelf.old shelf.new) (Call.opening n) }
 {
     packing::change(calls::open(desk, table, shelf, n))
 }
@@ -21,7 +22,8 @@ pub fn inarumpit_insert(
     number: u32,
     body: &[u8],
 ) -> u64
-    ensures { Returns result (kept desk.now) (rewritten table.old table.new) (kept shelf.now) (Call.change (Change.insert number body.now)) }
+    ensures { Returns result (kept desk.now) (rewritten table.old table.new) (kept shelf.now)
+        (Call.change (Change.insert number body.now)) }
 {
     packing::change(calls::insert(desk, table, shelf, RecordNumber(number), body))
 }
@@ -33,13 +35,15 @@ pub fn inarumpit_modify(
     number: u32,
     body: &[u8],
 ) -> u64
-    ensures { Returns result (kept desk.now) (rewritten table.old table.new) (rewritten shelf.old shelf.new) (Call.change (Change.modify number body.now)) }
+    ensures { Returns result (kept desk.now) (rewritten table.old table.new)
+        (rewritten shelf.old shelf.new) (Call.change (Change.modify number body.now)) }
 {
     packing::change(calls::modify(desk, table, shelf, RecordNumber(number), body))
 }
 
 pub fn inarumpit_delete(desk: &[u8], table: &mut [u8], shelf: &mut [u8], number: u32) -> u64
-    ensures { Returns result (kept desk.now) (rewritten table.old table.new) (rewritten shelf.old shelf.new) (Call.change (Change.delete number)) }
+    ensures { Returns result (kept desk.now) (rewritten table.old table.new)
+        (rewritten shelf.old shelf.new) (Call.change (Change.delete number)) }
 {
     packing::change(calls::delete(desk, table, shelf, RecordNumber(number)))
 }
@@ -58,7 +62,9 @@ pub fn inarumpit_next(
     budget: u32,
     out: &mut [u8],
 ) -> u64
-    ensures { ReturnsOut result (rewritten desk.old desk.new) (rewritten table.old table.new) (rewritten shelf.old shelf.new) (rewritten out.old out.new) (Call.next ticket budget out.old) }
+    ensures { ReturnsOut result (rewritten desk.old desk.new) (rewritten table.old table.new)
+        (rewritten shelf.old shelf.new) (rewritten out.old out.new)
+        (Call.next ticket budget out.old) }
 {
     packing::next(calls::next(desk, table, shelf, Ticket(ticket), budget, out))
 }

@@ -6,7 +6,8 @@ ghost use Rattle.rules.specs.Refusals.{Call, Change, Reading};
 
 #[unsafe(no_mangle)]
 pub extern "C" fn inarumpit_open(desk: &mut [u8], table: &mut [u8], shelf: &mut [u8], n: u32) -> u64
-    ensures { Returns result (rewritten desk.old desk.new) (rewritten table.old table.new) (rewritten shelf.old shelf.new) (Call.opening n) }
+    ensures { Returns result (rewritten desk.old desk.new) (rewritten table.old table.new)
+        (rewritten shelf.old shelf.new) (Call.opening n) }
 {
     inarumpit::inarumpit_open(desk, table, shelf, n)
 }
@@ -19,7 +20,8 @@ pub extern "C" fn inarumpit_insert(
     number: u32,
     body: &[u8],
 ) -> u64
-    ensures { Returns result (kept desk.now) (rewritten table.old table.new) (kept shelf.now) (Call.change (Change.insert number body.now)) }
+    ensures { Returns result (kept desk.now) (rewritten table.old table.new) (kept shelf.now)
+        (Call.change (Change.insert number body.now)) }
 {
     inarumpit::inarumpit_insert(desk, table, shelf, number, body)
 }
@@ -32,7 +34,8 @@ pub extern "C" fn inarumpit_modify(
     number: u32,
     body: &[u8],
 ) -> u64
-    ensures { Returns result (kept desk.now) (rewritten table.old table.new) (rewritten shelf.old shelf.new) (Call.change (Change.modify number body.now)) }
+    ensures { Returns result (kept desk.now) (rewritten table.old table.new)
+        (rewritten shelf.old shelf.new) (Call.change (Change.modify number body.now)) }
 {
     inarumpit::inarumpit_modify(desk, table, shelf, number, body)
 }
@@ -44,7 +47,8 @@ pub extern "C" fn inarumpit_delete(
     shelf: &mut [u8],
     number: u32,
 ) -> u64
-    ensures { Returns result (kept desk.now) (rewritten table.old table.new) (rewritten shelf.old shelf.new) (Call.change (Change.delete number)) }
+    ensures { Returns result (kept desk.now) (rewritten table.old table.new)
+        (rewritten shelf.old shelf.new) (Call.change (Change.delete number)) }
 {
     inarumpit::inarumpit_delete(desk, table, shelf, number)
 }
@@ -65,7 +69,9 @@ pub extern "C" fn inarumpit_next(
     budget: u32,
     out: &mut [u8],
 ) -> u64
-    ensures { ReturnsOut result (rewritten desk.old desk.new) (rewritten table.old table.new) (rewritten shelf.old shelf.new) (rewritten out.old out.new) (Call.next ticket budget out.old) }
+    ensures { ReturnsOut result (rewritten desk.old desk.new) (rewritten table.old table.new)
+        (rewritten shelf.old shelf.new) (rewritten out.old out.new)
+        (Call.next ticket budget out.old) }
 {
     inarumpit::inarumpit_next(desk, table, shelf, ticket, budget, out)
 }

@@ -2,7 +2,7 @@
 #![tactic(auto)]
 
 ghost use Rattle.std.specs.Prelude.{◌≡◌, ◌<◌};
-ghost use Rattle.rules.specs.Masks.{fresh as freshMasks, walk_begun as begunMasks, walk_ended, ended as endedMasks, new_status, m_of, on, scan_mask};
+ghost use Rattle.rules.specs.Masks.{fresh as fresh_masks, walk_begun as begun_masks, walk_ended, ended as ended_masks, new_status, m_of, on, scan_mask};
 ghost use Rattle.masks.specs.Held.{held};
 
 use rules::Position;
@@ -22,7 +22,7 @@ impl Masks {
 
     // The masks of a fresh desk: both active masks all ones.
     pub fn fresh() -> Self
-        ensures { held result ≡ freshMasks }
+        ensures { held result ≡ fresh_masks }
     {
         Self {
             stable: 0,
@@ -34,7 +34,7 @@ impl Masks {
     // A scan takes position p: its bit is cleared in both active masks.
     pub fn begun(self, p: Position) -> Self
         requires { p.0 < 64 }
-        ensures { held result ≡ begunMasks (held self) p.0 }
+        ensures { held result ≡ begun_masks (held self) p.0 }
     {
         let others = !scan_mask(p);
         Self {
@@ -60,7 +60,7 @@ impl Masks {
     // The scan at p is finished: its position is free again.
     pub fn ended(self, p: Position) -> Self
         requires { p.0 < 64 }
-        ensures { held result ≡ endedMasks (held self) p.0 }
+        ensures { held result ≡ ended_masks (held self) p.0 }
     {
         let own = scan_mask(p);
         Self {

@@ -10,7 +10,8 @@ use rules::ChangeAnswer;
 
 pub fn open(desk: &mut [u8], table: &mut [u8], shelf: &mut [u8], n: u32) -> ChangeAnswer
     requires { (length desk.old ≡ 1088) × (length table.old / 64 < 4294967296) × (length shelf.old / 64 < 4294967296) }
-    ensures { Tells (change_says result) (rewritten desk.old desk.new) (rewritten table.old table.new) (rewritten shelf.old shelf.new) (Call.opening n) }
+    ensures { Tells (change_says result) (rewritten desk.old desk.new) (rewritten table.old table.new)
+        (rewritten shelf.old shelf.new) (Call.opening n) }
 {
     if (1 <= n) & (n <= 64) {
         let t = slots::slot_count(table) as u32;

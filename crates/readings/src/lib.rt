@@ -26,7 +26,8 @@ pub fn tally(table: &[u8], shelf: &[u8]) -> TallyAnswer
 
 pub fn owed(desk: &[u8], table: &[u8], shelf: &[u8], ticket: Ticket) -> OwedAnswer
     requires { Ready desk.now table.now shelf.now }
-    ensures { Tells (owed_says result) (kept desk.now) (kept table.now) (kept shelf.now) (Call.reading (Reading.owed ticket.0)) }
+    ensures { Tells (owed_says result) (kept desk.now) (kept table.now) (kept shelf.now)
+        (Call.reading (Reading.owed ticket.0)) }
 {
     let p = running::scan_of(desk, ticket);
     if p.below(64) {

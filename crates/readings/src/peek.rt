@@ -44,7 +44,9 @@ fn found_at(desk: &[u8], table: &[u8], shelf: &[u8], p: Position) -> Found
 // The 56 bytes of number and body as a part of table or shelf and no copy; an empty part where next would hand out nothing.
 pub fn peek<'a>(desk: &[u8], table: &'a [u8], shelf: &'a [u8], ticket: Ticket) -> &'a [u8]
     requires { Ready desk.now table.now shelf.now }
-    ensures { Tells (Answer.shown (Shown.part result.now)) (kept desk.now) (kept table.now) (kept shelf.now) (Call.reading (Reading.peek ticket.0)) × NoCopy result desk.entry table.entry shelf.entry ticket.0 }
+    ensures { Tells (Answer.shown (Shown.part result.now)) (kept desk.now) (kept table.now)
+        (kept shelf.now) (Call.reading (Reading.peek ticket.0))
+        × NoCopy result desk.entry table.entry shelf.entry ticket.0 }
 {
     let p = running::scan_of(desk, ticket);
     if p.below(64) {

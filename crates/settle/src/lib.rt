@@ -133,7 +133,8 @@ pub fn hand_out(
     out: &mut [u8],
 )
     requires { CanHandOut desk.old table.old shelf.old out.old p.0 c (held m) looks }
-    ensures { HandsOut (rewritten desk.old desk.new) (rewritten table.old table.new) (rewritten shelf.old shelf.new) (rewritten out.old out.new) p.0 (c.place + looks - 1) }
+    ensures { HandsOut (rewritten desk.old desk.new) (rewritten table.old table.new)
+        (rewritten shelf.old shelf.new) (rewritten out.old out.new) p.0 (c.place + looks - 1) }
 {
     let place = c.place + looks;
     go_on(desk, table, p, c, m, place, 1);
