@@ -1,5 +1,5 @@
 -- The ways out of begin, each from what its steps ensure to the rule.
-use mathlib.Core.Path.{◌≡◌, refl, sym, ◌∙◌}
+use mathlib.Core.Path.{◌≡◌, refl, ◌∙◌}
 use mathlib.Core.List.{List, []}
 use Prim.Native.Nat.{ℕ, ◌+◌, ◌*◌, ◌≤◌, ◌<◌}
 use native.Mathlib.Omega.{arith}
@@ -17,38 +17,26 @@ use Rattle.layout.specs.Puts.{put, put32}
 use Rattle.joins.proofs.Cases.{begin_full, begin-last, begin-done}
 use Rattle.joins.proofs.Desks.{begin-put}
 
--- a ticket that is not the last of all
-pub most : (x : ℕ) → x < 4294967296 → (x ≡ 4294967295 → ⊥) → x < 4294967295
-most x h e = omega arith
-
-module _ (d : List ℕ) {p n : ℕ} (ep : p ≡ free_position (store_of d [] [])) (en : n ≡ u32_at d 0) (t s : List ℕ) where
-  same-position : free_position (store_of d t s) ≡ p
-  unfolding store_of
-  same-position = sym ep
-
-  same_n : (store_of d t s).desk.n ≡ n
+-- where the lowest free position stands below N or at N, whatever stands in table and shelf
+module _ (d t s : List ℕ) where
+  pub begins_full : free_position (store_of d [] []) ≡ u32_at d 0 → told (refused 9) (store_of d t s) [] ≡ step (store_of d t s) Call.begin
   unfolding store_of desk_of
-  same_n = sym en
+  begins_full e = begin_full (store_of d t s) (omega (arith, e))
 
-  same-last : (store_of d t s).desk.last ≡ u32_at d 12
-  unfolding store_of desk_of
-  same-last = refl
-
-  pub begins_full : n ≤ p → told (refused 9) (store_of d t s) [] ≡ step (store_of d t s) Call.begin
-  begins_full h = begin_full (store_of d t s) (rw (same-position, same_n) h)
-
-  module _ (h : p < n) {g : ℕ} (eg : g ≡ u32_at d 12) where
+  module _ (h : free_position (store_of d [] []) < u32_at d 0) where
     below : free_position (store_of d t s) < (store_of d t s).desk.n
-    below = rw (same-position, same_n) h
+    unfolding store_of desk_of
+    below = h
 
-    pub begins-last : g ≡ 4294967295 → told (refused 11) (store_of d t s) [] ≡ step (store_of d t s) Call.begin
-    begins-last e = begin-last (store_of d t s) below (same-last ∙ sym eg ∙ e)
+    pub begins_last : u32_at d 12 ≡ 4294967295 → told (refused 11) (store_of d t s) [] ≡ step (store_of d t s) Call.begin
+    unfolding store_of desk_of
+    begins_last e = begin-last (store_of d t s) below e
 
-    module _ (e : g ≡ 4294967295 → ⊥) (nd : length d ≡ 1088) (bd : Bytes d) (hn : n ≤ 64) {m : Masks} (em : m ≡ masks_of d) where
+    module _ {p g : ℕ} {m : Masks} (ep : p ≡ free_position (store_of d [] [])) (eg : g ≡ u32_at d 12) (e : g ≡ 4294967295 → ⊥) (nd : length d ≡ 1088) (bd : Bytes d) (hn : u32_at d 0 ≤ 64) (em : m ≡ masks_of d) where
       begun-put : desk_of (put (put (put32 d 12 (g + 1)) 16 (masks_bytes (walk_begun m p))) (64 + p * 16) (card_bytes (card (g + 1) 0 0 0))) ≡ (given (store_of d t s) p).desk
       unfolding given store_of desk_of walk_begun cleared
       begun-put =
-          let sg : g + 1 < 4294967296 = omega (arith, most g (omega (arith, eg, u32_small d 12 bd (omega arith))) e) in
+          let sg : g + 1 < 4294967296 = omega (arith, eg, e, u32_small d 12 bd (omega arith)) in
           rw em
           (begin-put d (g + 1) (walk_begun (masks_of d) p) p (card (g + 1) 0 0 0) nd sg
           (u64_small d 16 bd (omega arith), omega (arith, and_le_l (u64_at d 24) (NOT 64 (scan_mask p)), u64_small d 24 bd (omega arith)), omega (arith, and_le_l (u64_at d 32) (NOT 64 (scan_mask p)), u64_small d 32 bd (omega arith)))
@@ -60,4 +48,4 @@ module _ (d : List ℕ) {p n : ℕ} (ep : p ≡ free_position (store_of d [] [])
       unfolding store_of given desk_of u32_at
       begins {d₁} {d₂} {x} ex e₁ e₂ =
           rw (e₂, e₁, ex, begun-put)
-          (rw (eg) (rw (same-position, same-last) at (begin-done (store_of d t s) below (λ z. e (eg ∙ sym same-last ∙ z)))))
+          (rw (eg, ep) (begin-done (store_of d t s) below (λ z. e (eg ∙ z))))

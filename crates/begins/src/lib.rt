@@ -1,7 +1,7 @@
 // Begin, on a sound desk: a ticket is given, and its scan takes a position.
 #![tactic(auto)]
 
-ghost use Rattle.std.specs.Prelude.{◌≡◌, ◌+◌, ◌*◌, ◌≤◌, ◌<◌, length};
+ghost use Rattle.std.specs.Prelude.{◌≡◌, ◌+◌, ◌*◌, ◌≤◌, ◌<◌};
 ghost use Rattle.rules.specs.Answers.{begin_says};
 ghost use Rattle.rules.specs.Bytes.{u32_at};
 ghost use Rattle.rules.specs.Promises.{TellsOverAnySlots, rewritten};
@@ -12,11 +12,11 @@ ghost use Rattle.layout.specs.Puts.{put, put32};
 ghost use Rattle.masks.specs.Held.{held};
 
 use masks::Masks;
-use rules::{BeginAnswer, Card, Position, Ticket};
+use rules::{BeginAnswer, Card, Desk, Position, Refusal, Ticket};
 
 // A ticket is given: the last one + 1.
-fn give_ticket(desk: &mut [u8], last: Ticket) -> Ticket
-    requires { (length desk.old ≡ 1088) × (last.0 < 4294967295) }
+fn give_ticket(desk: &mut Desk, last: Ticket) -> Ticket
+    requires { last.0 < 4294967295 }
     ensures { (result.0 ≡ last.0 + 1) × (desk.new ≡ put32 desk.old 12 (last.0 + 1)) }
 {
     let ticket = last.next();
@@ -25,8 +25,8 @@ fn give_ticket(desk: &mut [u8], last: Ticket) -> Ticket
 }
 
 // The scan of a ticket takes position p, at place 0.
-fn seat(desk: &mut [u8], ticket: Ticket, p: Position, m: Masks)
-    requires { (length desk.old ≡ 1088) × (p.0 < 64) }
+fn seat(desk: &mut Desk, ticket: Ticket, p: Position, m: Masks)
+    requires { p.0 < 64 }
     ensures { desk.new ≡ put (put desk.old 16 (masks_bytes (begun_masks (held m) p.0))) (64 + p.0 * 16) (card_bytes (card ticket.0 0 0 0)) }
 {
     desk::write::put_masks(desk, m.begun(p));
@@ -34,7 +34,7 @@ fn seat(desk: &mut [u8], ticket: Ticket, p: Position, m: Masks)
         desk,
         p,
         Card {
-            ticket: ticket,
+            ticket,
             place: 0,
             handed: 0,
             rest: 0,
@@ -42,21 +42,19 @@ fn seat(desk: &mut [u8], ticket: Ticket, p: Position, m: Masks)
     );
 }
 
-pub fn begin(desk: &mut [u8]) -> BeginAnswer
-    requires { (length desk.old ≡ 1088) × (u32_at desk.old 0 ≤ 64) }
+#[tactic(auto, using(crate::proofs::Begins::begins_full, crate::proofs::Begins::begins_last), unfolding(rules::specs::Answers::says, rules::specs::Answers::number_of))]
+pub fn begin(desk: &mut Desk) -> BeginAnswer
+    requires { u32_at desk.old 0 ≤ 64 }
     ensures { TellsOverAnySlots (begin_says result) (rewritten desk.old desk.new) Call.begin }
 {
-    let p = positions::free_position(desk);
-    let is_free = p.below(desk::n(desk));
-    if is_free {
-        let last = desk::last_ticket(desk);
-        if last.is_last() {
-            return BeginAnswer::Refused(11);
-        }
-        let m = desk::masks_at(desk);
-        let ticket = give_ticket(desk, last);
-        seat(desk, ticket, p, m);
-        return BeginAnswer::Begun(ticket);
+    let free = positions::free_position(desk);
+    let p = free.ok_or(Refusal::NoPosition)?;
+    let last = desk::last_ticket(desk);
+    if last == Ticket::LAST {
+        return Err(Refusal::NoTicket);
     }
-    BeginAnswer::Refused(9)
+    let m = desk::masks_at(desk);
+    let ticket = give_ticket(desk, last);
+    seat(desk, ticket, p, m);
+    Ok(ticket)
 }

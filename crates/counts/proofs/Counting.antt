@@ -1,22 +1,27 @@
 -- The versions that a scan waits for from one slot on, as the code counts them.
 use mathlib.Core.Path.{◌≡◌, refl, sym, ap, ◌∙◌}
-use mathlib.Core.Bool.{Bool, false, not, ◌&&◌}
+use mathlib.Core.Bool.{Bool, true, false, not, ◌&&◌}
 use mathlib.Core.List.{List}
 use Prim.Native.Nat.{ℕ, ◌+◌, ◌*◌, ◌-◌, ◌/◌, ◌≤◌, ◌<◌}
 use native.Mathlib.Nat.{sub-zero}
 use native.Mathlib.Omega.{arith}
 use lib.Bits.{bit_xor}
 use lib.ListN.{length}
+use Rattle.std.specs.Int.{from_bool}
 use Rattle.rules.specs.Bytes.{u64_at}
 use Rattle.rules.specs.Calls.{in_use, count}
 use Rattle.rules.specs.Masks.{on, off}
 use Rattle.rules.specs.Memory.{slot_at, slots_of}
 use Rattle.rules.proofs.Bits.{not_on}
 use Rattle.joins.specs.Search.{waiting}
-use Rattle.joins.proofs.Search.{one_if, count_turn, count_end, count_past}
+use Rattle.joins.proofs.Search.{count_turn, count_end, count_past}
 use Rattle.search.specs.Passed.{used_at, Passed}
 use Rattle.search.proofs.Passing.{used_is}
 use Rattle.counts.specs.Waiting.{waiting_from, Counted}
+
+pub at_most_one : (b : Bool) → from_bool b ≤ 1
+at_most_one true = omega arith
+at_most_one false = omega arith
 
 module _ (l : List ℕ) (flip p : ℕ) where
   pub waits_by_words : (i : ℕ) {used : Bool} {mask : ℕ} → used ≡ in_use (slot_at l i) → mask ≡ u64_at l (i * 64 + 56) → used && not (on (bit_xor flip mask) p) ≡ waiting flip p (slot_at l i)
@@ -30,13 +35,13 @@ module _ (l : List ℕ) (flip p : ℕ) where
   unfolding waiting_from
   from_last i h = count_end (waiting flip p) (slot_at l) i (length l / 64) h
 
-  pub from_turn : (i : ℕ) → i < length l / 64 → waiting_from flip p l i ≡ one_if (waiting flip p (slot_at l i)) + waiting_from flip p l (i + 1)
+  pub from_turn : (i : ℕ) → i < length l / 64 → waiting_from flip p l i ≡ from_bool (waiting flip p (slot_at l i)) + waiting_from flip p l (i + 1)
   unfolding waiting_from
   from_turn i h = count_turn (waiting flip p) (slot_at l) i (length l / 64) h
 
   -- four slots at once
   pub from_four : (i : ℕ) → i + 4 ≤ length l / 64
-      → waiting_from flip p l i ≡ one_if (waiting flip p (slot_at l i)) + one_if (waiting flip p (slot_at l (i + 1))) + one_if (waiting flip p (slot_at l (i + 2))) + one_if (waiting flip p (slot_at l (i + 3))) + waiting_from flip p l (i + 4)
+      → waiting_from flip p l i ≡ from_bool (waiting flip p (slot_at l i)) + from_bool (waiting flip p (slot_at l (i + 1))) + from_bool (waiting flip p (slot_at l (i + 2))) + from_bool (waiting flip p (slot_at l (i + 3))) + waiting_from flip p l (i + 4)
   from_four i h =
       let x : i + 1 + 1 ≡ i + 2 = omega arith in
       let y : i + 2 + 1 ≡ i + 3 = omega arith in
@@ -45,7 +50,7 @@ module _ (l : List ℕ) (flip p : ℕ) where
 
   -- as the code adds them up
   pub four_counted : (i : ℕ) → i + 4 ≤ length l / 64 → {a b c d : ℕ} {x y z w : Bool} → x ≡ waiting flip p (slot_at l i) → y ≡ waiting flip p (slot_at l (i + 1)) → z ≡ waiting flip p (slot_at l (i + 2)) → w ≡ waiting flip p (slot_at l (i + 3))
-      → a ≡ one_if x → b ≡ one_if y → c ≡ one_if z → d ≡ one_if w → Counted flip p l i (i + 4) (a + b + c + d)
+      → a ≡ from_bool x → b ≡ from_bool y → c ≡ from_bool z → d ≡ from_bool w → Counted flip p l i (i + 4) (a + b + c + d)
   four_counted i h ex ey ez ew ea eb ec ed = rw (ea, eb, ec, ed, ex, ey, ez, ew) (sym (from_four i h))
 
   -- empty slots wait for no scan

@@ -1,115 +1,108 @@
-// Counts over the slots of a table or the entries of a shelf: those in use, and the versions that a scan waits for.
+// Counts over the slots of a table or the entries of a shelf: those in use, and the versions that a scan awaits.
 #![tactic(auto)]
 
 ghost use Rattle.std.specs.Prelude.{◌≡◌, ◌+◌, ◌/◌, ◌≤◌, ◌<◌, length};
 ghost use Rattle.rules.specs.Calls.{used as used_of, count};
 ghost use Rattle.rules.specs.Memory.{slot_at, slots_of};
 ghost use Rattle.joins.specs.Search.{waiting as waiting_in};
-ghost use Rattle.joins.proofs.Search.{one_if};
 ghost use Rattle.counts.specs.Waiting.{Counted};
 
-use rules::{Position, SlotNumber};
-
-fn one_if(b: bool) -> u32
-    ensures { (result ≡ one_if b) × (result ≤ 1) }
-{
-    if b { 1 } else { 0 }
-}
+use masks::Awaiting;
+use rules::SlotNumber;
 
 // The slots in use.
 pub fn used(slots: &[u8]) -> u32
     requires { length slots.now / 64 < 4294967296 }
     ensures { result ≡ used_of (slots_of slots.now) }
 {
-    let end = slots::slot_count(slots);
     let mut n: u32 = 0;
-    let mut i: usize = 0;
-    while i < end {
-        n += one_if(slots::in_use(slots, SlotNumber(i)));
-        i += 1;
+    for i in 0..slots::slot_count(slots) {
+        n += u32::from(slots::in_use(slots, SlotNumber(i)));
     }
     n
 }
 
-// Whether the scan at p waits for the version in slot i.
-fn waits(slots: &[u8], i: usize, flip: u64, p: Position) -> bool
-    requires { (i < length slots.now / 64) × (p.0 < 64) }
-    ensures { result ≡ waiting_in flip p.0 (slot_at slots.now i) }
+// Whether the scan awaits the version in slot i.
+fn waits(slots: &[u8], i: usize, scan: Awaiting) -> bool
+    requires { (i < length slots.now / 64) × (scan.position.0 < 64) }
+    ensures { result ≡ waiting_in scan.flip scan.position.0 (slot_at slots.now i) }
 {
     let here = SlotNumber(i);
-    slots::in_use(slots, here) & !masks::has_bit(flip ^ slots::mask_at(slots, here), p)
+    slots::in_use(slots, here) & scan.awaits(slots::mask_at(slots, here))
 }
 
-// The versions in the four slots from i on that the scan at p waits for.
-fn waiting_of_four(slots: &[u8], i: usize, flip: u64, p: Position) -> u32
-    requires { (i + 4 ≤ length slots.now / 64) × (p.0 < 64) }
-    ensures { (result ≤ 4) × Counted flip p.0 slots.now i (i + 4) result }
+// The versions in the four slots from i on that the scan awaits.
+fn waiting_of_four(slots: &[u8], i: usize, scan: Awaiting) -> u32
+    requires { (i + 4 ≤ length slots.now / 64) × (scan.position.0 < 64) }
+    ensures { (result ≤ 4) × Counted scan.flip scan.position.0 slots.now i (i + 4) result }
 {
-    one_if(waits(slots, i, flip, p))
-        + one_if(waits(slots, i + 1, flip, p))
-        + one_if(waits(slots, i + 2, flip, p))
-        + one_if(waits(slots, i + 3, flip, p))
+    u32::from(waits(slots, i, scan))
+        + u32::from(waits(slots, i + 1, scan))
+        + u32::from(waits(slots, i + 2, scan))
+        + u32::from(waits(slots, i + 3, scan))
 }
 
-// Slots passed: the versions in them that a scan waits for, and the slot after the last.
-#[derive(Clone, Copy)]
+// Slots passed: the versions in them that a scan awaits, and the slot after the last.
+#[derive(Clone, Copy, Debug, PartialEq, Eq)]
 struct Run {
     waiting: u32,
     next: usize,
 }
 
-// Past the blocks of four slots in use from `from` on, with the versions there that the scan at p waits for.
-fn run_in_use(slots: &[u8], from: usize, flip: u64, p: Position) -> Run
-    requires { (from ≤ length slots.now / 64) × (length slots.now / 64 < 4294967296) × (p.0 < 64) }
-    ensures { (from + result.waiting ≤ result.next) × (result.next ≤ length slots.now / 64) × Counted flip p.0 slots.now from result.next result.waiting }
+// Past the blocks of four slots in use from `from` on, with the versions there that the scan awaits.
+fn run_in_use(slots: &[u8], from: usize, scan: Awaiting) -> Run
+    requires { (from ≤ length slots.now / 64) × (length slots.now / 64 < 4294967296) × (scan.position.0 < 64) }
+    ensures { (from + result.waiting ≤ result.next) × (result.next ≤ length slots.now / 64) × Counted scan.flip scan.position.0 slots.now from result.next result.waiting }
 {
-    let end = slots::slot_count(slots);
+    let blocks = (slots::slot_count(slots) - from) / 4;
     let mut n: u32 = 0;
-    let mut i = from;
-    while i + 4 <= end {
+    for block in 0..blocks {
+        let i = from + 4 * block;
         let a = slots::in_use(slots, SlotNumber(i));
         let b = slots::in_use(slots, SlotNumber(i + 1));
         let c = slots::in_use(slots, SlotNumber(i + 2));
         let d = slots::in_use(slots, SlotNumber(i + 3));
-        if (a & b) & (c & d) {
-            n += waiting_of_four(slots, i, flip, p);
-            i += 4;
-        } else {
-            break;
+        let all = (a & b) & (c & d);
+        if !all {
+            return Run {
+                waiting: n,
+                next: i,
+            };
         }
+        n += waiting_of_four(slots, i, scan);
     }
     Run {
         waiting: n,
-        next: i,
+        next: from + 4 * blocks,
     }
 }
 
-// The versions that the scan at p waits for.
-pub fn waiting(slots: &[u8], flip: u64, p: Position) -> u32
-    requires { (length slots.now / 64 < 4294967296) × (p.0 < 64) }
-    ensures { result ≡ count (waiting_in flip p.0) (slots_of slots.now) }
+// The versions that the scan awaits.
+pub fn waiting(slots: &[u8], scan: Awaiting) -> u32
+    requires { (length slots.now / 64 < 4294967296) × (scan.position.0 < 64) }
+    ensures { result ≡ count (waiting_in scan.flip scan.position.0) (slots_of slots.now) }
 {
     let end = slots::slot_count(slots);
     let mut n: u32 = 0;
     let mut i: usize = 0;
+    // No range gives the next slot: it is where a run of full or of empty blocks ends.
     loop {
-        let run = run_in_use(slots, i, flip, p);
+        let run = run_in_use(slots, i, scan);
         n += run.waiting;
         i = run.next;
         if i + 4 > end {
             break;
         }
-        let next = search::past_empty(slots, SlotNumber(i), SlotNumber(end)).index();
+        let next = usize::from(search::past_empty(slots, SlotNumber(i), SlotNumber(end)));
         if next > i {
             i = next;
             continue;
         }
-        n += waiting_of_four(slots, i, flip, p);
+        n += waiting_of_four(slots, i, scan);
         i += 4;
     }
-    while i < end {
-        n += one_if(waits(slots, i, flip, p));
-        i += 1;
+    for last in i..end {
+        n += u32::from(waits(slots, last, scan));
     }
     n
 }

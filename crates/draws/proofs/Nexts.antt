@@ -18,24 +18,30 @@ use Rattle.looks.specs.declared.walk.Seen.{Seen}
 use Rattle.looks.specs.declared.walk.Walked.{Walked}
 use Rattle.looks.specs.Walked.{stop_of, walked_of, hit_in}
 use Rattle.settle.proofs.Moves.{table-there, shelf-there}
-use Rattle.running.specs.Scan.{scan_of}
-use Rattle.running.proofs.Scan.{scan-none, scan-one, scan_at}
-use Rattle.running.proofs.Sought.{record_says, record_at_lem, spent_says, end_says, end_at, ends_at, on_desk_lem, card_is, within, reach_is, stop_is}
+use Rattle.settle.specs.Settled.{CanGoOn, CanHandOut}
+use Rattle.running.specs.Scan.{Ready, Runs, scan_of}
+use Rattle.running.proofs.Scan.{scan_none, scan_one, scan_at, scan_fits, scan_handed}
+use Rattle.running.proofs.Sought.{record_says, record_some, record_fits, spent_fits, record_at_lem, spent_says, end_says, end_at, ends_at, on_desk_lem, card_is, within, reach_is, stop_is}
 
-module _ (d t s : List ℕ) (k : ℕ) {p : ℕ} (ep : p ≡ scan_of (store_of d [] []) k) (b : ℕ) (o : List ℕ) where
-  pub nexts-none : 64 ≤ p → told (refused 10) (store_of d t s) o ≡ step (store_of d t s) (Call.next k b o)
-  nexts-none h = next-none (store_of d t s) k (scan-none d t s k ep h) b o
+module _ (d t s : List ℕ) (k b : ℕ) (o : List ℕ) where
+  pub nexts_none : scan_of (store_of d [] []) k ≡ 64 → told (refused 10) (store_of d t s) o ≡ step (store_of d t s) (Call.next k b o)
+  nexts_none h = next-none (store_of d t s) k (scan_none d t s k h) b o
 
-  pub nexts-goes : p < 64 → walk (store_of d t s) p b 0 o ≡ step (store_of d t s) (Call.next k b o)
-  nexts-goes h =
-      ap (λ (x : ℕ). walk (store_of d t s) x b 0 o) (sym (scan_at d t s k ep h)) ∙ next-goes (store_of d t s) k (scan-one d t s k ep h) b o
+  pub nexts_goes : {p : ℕ} → p ≡ scan_of (store_of d [] []) k → scan_of (store_of d [] []) k < 64 → walk (store_of d t s) p b 0 o ≡ step (store_of d t s) (Call.next k b o)
+  nexts_goes {p} ep h = ap (λ (x : ℕ). walk (store_of d t s) x b 0 o) (sym (scan_at d t s k ep h)) ∙ next-goes (store_of d t s) k (scan_one d t s k ep h) b o
 
 -- ---- the scan at p goes on
 
-module _ (d t s : List ℕ) (b : ℕ) (o : List ℕ) {p : ℕ} (below : p < 64) {c : Card} (ec : c ≡ card_at d p) {m : Masks} (em : m ≡ masks_of d)
-    (fits : c.place ≤ length t / 64 + length s / 64) {w : Walked} (ew : w ≡ walked_of (hit_in m.stable p (slots_of t) (slots_of s)) c.place b (length t / 64 + length s / 64)) where
+module _ (d t s : List ℕ) (b : ℕ) (o : List ℕ) (ready : Ready d t s) {p : ℕ} (runs : Runs d p) {c : Card} (ec : c ≡ card_at d p) {m : Masks} (em : m ≡ masks_of d) {w : Walked}
+    (ew : w ≡ walked_of (hit_in m.stable p (slots_of t) (slots_of s)) c.place b (length t / 64 + length s / 64)) where
   abbrev stop : ℕ
   stop = stop_of (hit_in m.stable p (slots_of t) (slots_of s)) c.place b (length t / 64 + length s / 64)
+
+  below : p < 64
+  below = runs.0
+
+  fits : c.place ≤ length t / 64 + length s / 64
+  fits = scan_fits d t s ready.2 runs ec
 
   stops : stop_at (store_of d t s) p b ≡ stop
   stops = stop_is d t s below ec (ap (λ (v : Masks). v.stable) em) b
@@ -45,10 +51,14 @@ module _ (d t s : List ℕ) (b : ℕ) (o : List ℕ) {p : ℕ} (below : p < 64) 
     says : (stop < min (c.place + b) (length t / 64 + length s / 64)) × (w.looks ≡ suc stop - c.place) × (w.left ≡ b - (suc stop - c.place))
     says = record_says (hit_in m.stable p (slots_of t) (slots_of s)) c.place b (length t / 64 + length s / 64) ew seen
 
-    pub nexts-record : (d' t' s' : List ℕ) {o' : List ℕ}
+    pub can_hand_out : CanHandOut d t s p c m w.looks
+    can_hand_out =
+        (below, ec, em, record_fits (hit_in m.stable p (slots_of t) (slots_of s)) c.place b (length t / 64 + length s / 64) ew seen, omega (arith, ready.1), record_some (hit_in m.stable p (slots_of t) (slots_of s)) c.place b (length t / 64 + length s / 64) ew seen, omega (arith, fits, scan_handed d t s ready.2 runs ec, ready.1))
+
+    pub nexts_record : (d' t' s' : List ℕ) {o' : List ℕ}
         → (store_of d' t' s' ≡ took (store_of d t s) p (c.place + w.looks - 1)) × (o' ≡ version (here (store_of d t s) (c.place + w.looks - 1)))
         → told (Answer.drew (Draw.in_hand w.looks w.left)) (store_of d' t' s') o' ≡ walk (store_of d t s) p b 0 o
-    nexts-record d' t' s' e =
+    nexts_record d' t' s' e =
         rw (e.0, e.1, record_at_lem (hit_in m.stable p (slots_of t) (slots_of s)) c.place b (length t / 64 + length s / 64) ew seen, says.1, says.2)
         (sym
         (walk-hit (store_of d t s) p (on_desk_lem d t s below) b o (within d t s below ec fits) (rw (stops, reach_is d t s below ec b) says.0)
@@ -61,6 +71,9 @@ module _ (d t s : List ℕ) (b : ℕ) (o : List ℕ) {p : ℕ} (below : p < 64) 
   module _ (seen : w.seen ≡ Seen.Spent) where
     spent : (min (c.place + b) (length t / 64 + length s / 64) ≤ stop) × (c.place + b < length t / 64 + length s / 64) × (w.looks ≡ b)
     spent = spent_says (hit_in m.stable p (slots_of t) (slots_of s)) c.place b (length t / 64 + length s / 64) ew seen
+
+    pub can_move_on : CanGoOn d p c m (c.place + w.looks)
+    can_move_on = (below, ec, em, omega (arith, spent_fits (hit_in m.stable p (slots_of t) (slots_of s)) c.place b (length t / 64 + length s / 64) ew seen, ready.1))
 
     pub nexts_spent : (d' : List ℕ) → store_of d' t s ≡ moved_to (store_of d t s) p (c.place + w.looks) c.handed (slots_of t) (slots_of s)
         → told (Answer.drew (Draw.paused w.looks)) (store_of d' t s) o ≡ walk (store_of d t s) p b 0 o
@@ -77,6 +90,9 @@ module _ (d t s : List ℕ) (b : ℕ) (o : List ℕ) {p : ℕ} (below : p < 64) 
     ended : (min (c.place + b) (length t / 64 + length s / 64) ≤ stop) × (length t / 64 + length s / 64 ≤ c.place + b) × (w.looks ≡ length t / 64 + length s / 64 - c.place)
         × (w.left ≡ b - (length t / 64 + length s / 64 - c.place))
     ended = end_says (hit_in m.stable p (slots_of t) (slots_of s)) c.place b (length t / 64 + length s / 64) ew seen
+
+    pub can_finish : CanGoOn d p c m (c.place + w.looks)
+    can_finish = (below, ec, em, omega (arith, end_at (hit_in m.stable p (slots_of t) (slots_of s)) c.place b (length t / 64 + length s / 64) ew seen fits, ready.1))
 
     pub nexts_end : (d' : List ℕ) → store_of d' t s ≡ finish (moved_to (store_of d t s) p (c.place + w.looks) c.handed (slots_of t) (slots_of s)) p
         → told (Answer.drew (Draw.finished w.looks w.left c.handed)) (store_of d' t s) o ≡ walk (store_of d t s) p b 0 o

@@ -1,8 +1,8 @@
 // Next, on a sound desk and buffers of right lengths.
 #![tactic(auto)]
 
-ghost use Rattle.std.specs.Prelude.{◌≡◌, length};
-ghost use Rattle.rules.specs.Answers.{next_says};
+ghost use Rattle.std.specs.Prelude.{◌≡◌};
+ghost use Rattle.rules.specs.Answers.{next_says, next_tells};
 ghost use Rattle.rules.specs.Memory.{store_of};
 ghost use Rattle.rules.specs.Promises.{TellsOut, rewritten};
 ghost use Rattle.rules.specs.Next.{told, walk};
@@ -10,64 +10,65 @@ ghost use Rattle.rules.specs.Refusals.{Call};
 ghost use Rattle.running.specs.Scan.{Ready, Runs};
 
 use looks::walk::Seen;
-use rules::{NextAnswer, Position, Ticket};
+use rules::{Desk, Draw, NextAnswer, Position, Refusal, Ticket, Version};
+use settle::Scan;
 
 pub fn next(
-    desk: &mut [u8],
+    desk: &mut Desk,
     table: &mut [u8],
     shelf: &mut [u8],
     ticket: Ticket,
     budget: u32,
-    out: &mut [u8],
+    out: &mut Version,
 ) -> NextAnswer
-    requires { Ready desk.old table.old shelf.old × (length out.old ≡ 56) }
+    requires { Ready desk.old table.old shelf.old }
     ensures { TellsOut (next_says result) (rewritten desk.old desk.new) (rewritten table.old table.new)
         (rewritten shelf.old shelf.new) (rewritten out.old out.new)
         (Call.next ticket.0 budget out.old) }
 {
-    let p = running::scan_of(desk, ticket);
-    if p.below(64) {
-        return go_on(desk, table, shelf, p, budget, out);
-    }
-    NextAnswer::Refused(10)
+    let Some(p) = running::scan_of(desk, ticket) else {
+        return Err(Refusal::NoScan);
+    };
+    Ok(go_on(desk, table, shelf, p, budget, out))
 }
 
 // The scan at p looks until a record is in hand, the budget is spent or the place is T + R; then masks, card and version are written.
 fn go_on(
-    desk: &mut [u8],
+    desk: &mut Desk,
     table: &mut [u8],
     shelf: &mut [u8],
     p: Position,
     budget: u32,
-    out: &mut [u8],
-) -> NextAnswer
-    requires { Ready desk.old table.old shelf.old × (length out.old ≡ 56) × Runs desk.old p.0 }
-    ensures { told (next_says result) (store_of desk.new table.new shelf.new) out.new
+    out: &mut Version,
+) -> Draw
+    requires { Ready desk.old table.old shelf.old × Runs desk.old p.0 }
+    ensures { told (next_tells result) (store_of desk.new table.new shelf.new) out.new
         ≡ walk (store_of desk.old table.old shelf.old) p.0 budget 0 out.old }
 {
     let card = desk::card_at(desk, p);
-    let m = desk::masks_at(desk);
-    let walked = looks::walk::seek(m.stable, table, shelf, p, card.place as usize, budget);
+    let masks = desk::masks_at(desk);
+    let scan = Scan {
+        position: p,
+        card,
+        masks,
+    };
+    let walked = looks::walk::seek(masks.stable, table, shelf, p, card.place as usize, budget);
     let looks = walked.looks;
     let left = walked.left;
-    let seen = walked.seen;
-    match seen {
+    match walked.seen {
         Seen::Record => {
-            settle::hand_out(desk, table, shelf, p, card, m, looks, out);
-            NextAnswer::InHand {
-                looks: looks,
-                left: left,
-            }
+            settle::hand_out(desk, table, shelf, scan, looks, out);
+            Draw::InHand { looks, left }
         }
         Seen::Spent => {
-            settle::move_on(desk, table, p, card, m, looks);
-            NextAnswer::Paused { looks: looks }
+            settle::move_on(desk, table, scan, looks);
+            Draw::Paused { looks }
         }
         Seen::End => {
-            settle::finish(desk, table, p, card, m, looks);
-            NextAnswer::Finished {
-                looks: looks,
-                left: left,
+            settle::finish(desk, table, scan, looks);
+            Draw::Finished {
+                looks,
+                left,
                 handed: card.handed,
             }
         }

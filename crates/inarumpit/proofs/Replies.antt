@@ -8,7 +8,8 @@ use native.Mathlib.Omega.{arith}
 use lib.Dec.{leb, eqb}
 use lib.ListN.{length}
 use borrow.Author.Tests.{eqb-true, leb-true}
-use Rattle.rules.specs.Answers.{Answer}
+use Rattle.rules.specs.declared.Refusal.{Refusal}
+use Rattle.rules.specs.Answers.{Answer, number_of}
 use Rattle.rules.specs.Memory.{Lent, lent, store_of, read}
 use Rattle.rules.specs.Next.{told}
 use Rattle.rules.specs.Refusals.{Call, slots_right, lengths_right, own_right, all_right, Refusals, first_of, own_refusals, looks_at_desk, refusals, refused_as, out_of, settled, step, reply, written_all, replied, called}
@@ -129,6 +130,34 @@ module _ {d t s : List ℕ} (c : Call) {k : ℕ} (way : k ≡ way_in (own_right 
   let_in e bd bt bs =
       let through = passed (all_right (lent d t s) c) (looks_at_desk c && not (sound (store_of d t s))) (sym way ∙ e) in
       record { fits = through.0; looks = through.1; desk_bytes = bd; table_bytes = bt; shelf_bytes = bs }
+
+number_some : (e : Refusal) → number_of e ≡ 0 → ⊥
+unfolding number_of
+number_some Refusal.BadLength h = absurd (omega (arith, h))
+number_some Refusal.BadDesk h = absurd (omega (arith, h))
+number_some Refusal.BadNumber h = absurd (omega (arith, h))
+number_some Refusal.BadKind h = absurd (omega (arith, h))
+number_some Refusal.AlreadyThere h = absurd (omega (arith, h))
+number_some Refusal.NotThere h = absurd (omega (arith, h))
+number_some Refusal.TableFull h = absurd (omega (arith, h))
+number_some Refusal.ShelfFull h = absurd (omega (arith, h))
+number_some Refusal.NoPosition h = absurd (omega (arith, h))
+number_some Refusal.NoScan h = absurd (omega (arith, h))
+number_some Refusal.NoTicket h = absurd (omega (arith, h))
+
+-- of a call that looks at the desk
+module _ {d t s : List ℕ} (c : Call) where
+  -- a buffer of its own has another length
+  pub by_own_length : own_right c ≡ false → reply (refused_as c 1) (lent d t s) (out_of c) ≡ called (lent d t s) c
+  unfolding refusals first_of
+  by_own_length e = replied_no (lent d t s) c 1 (rw e refl)
+
+  module _ (own : own_right c ≡ true) (looks : looks_at_desk c ≡ true) where
+    pub by_way : (e : Refusal) → number_of e ≡ way_in true true d t s → reply (refused_as c (number_of e)) (lent d t s) (out_of c) ≡ called (lent d t s) c
+    by_way e w = by_refusal c (rw (own, looks) w) (number_some e)
+
+    pub let_through : 0 ≡ way_in true true d t s → Bytes d → Bytes t → Bytes s → LetIn d t s c
+    let_through w = let_in c (rw (own, looks) w) refl
 
 module _ {d t s : List ℕ} {c : Call} (l : LetIn d t s c) where
   pub by_lengths : Lengths (length d) (length t) (length s)

@@ -1,46 +1,43 @@
 // The nine calls for Rattle callers: any bytes of any length, any numbers; a refusal changes no byte.
+// Desk, table and shelf are each lent as the call may change them: one struct of the three would lend all three alike.
 ghost use Rattle.std.specs.Prelude.{true, ◌≡◌};
 ghost use Rattle.rules.specs.Answers.{Answer, Shown, change_says, begin_says, next_says, tally_says, owed_says};
 ghost use Rattle.rules.specs.Promises.{Answers, HandsOut, NoCopy, rewritten, kept};
 ghost use Rattle.rules.specs.Refusals.{Call, Change, Reading};
-ghost use Rattle.inarumpit.specs.WayIn.{way_in};
+ghost use Rattle.inarumpit.specs.WayIn.{LetsIn};
 
-use rules::{BeginAnswer, ChangeAnswer, NextAnswer, OwedAnswer, RecordNumber, TallyAnswer, Ticket};
+use rules::{
+    BeginAnswer, ChangeAnswer, Desk, NextAnswer, OwedAnswer, RecordNumber, Refusal, TallyAnswer,
+    Ticket,
+};
 
-// The way in of every call that looks at the desk: 0 where it is open, else the number of the refusal.
-fn way_in(desk: &[u8], table: &[u8], shelf: &[u8]) -> u8
-    ensures { result ≡ way_in true true desk.now table.now shelf.now }
+// The way in of every call that looks at the desk: lengths, then the desk, which is handed on as what it is.
+fn way_in<'a>(desk: &'a [u8], table: &[u8], shelf: &[u8]) -> Result<&'a Desk, Refusal>
+    ensures { LetsIn result true true desk.now table.now shelf.now }
 {
-    if numbers::lengths::lengths_right(desk.len(), table.len(), shelf.len()) {
-        if soundness::is_sound(desk, table, shelf) {
-            return 0;
-        }
-        return 2;
+    if !numbers::lengths::lengths_right(desk.len(), table.len(), shelf.len()) {
+        return Err(Refusal::BadLength);
     }
-    1
-}
-
-// The same of a call with a buffer of its own, whose length is right where `own`.
-fn own_way_in(own: bool, desk: &[u8], table: &[u8], shelf: &[u8]) -> u8
-    ensures { result ≡ way_in own true desk.now table.now shelf.now }
-{
-    if own & numbers::lengths::lengths_right(desk.len(), table.len(), shelf.len()) {
-        if soundness::is_sound(desk, table, shelf) {
-            return 0;
-        }
-        return 2;
+    let Some(whole) = desk.as_array() else {
+        return Err(Refusal::BadLength);
+    };
+    if !soundness::is_sound(whole, table, shelf) {
+        return Err(Refusal::BadDesk);
     }
-    1
+    Ok(whole)
 }
 
 pub fn open(desk: &mut [u8], table: &mut [u8], shelf: &mut [u8], n: u32) -> ChangeAnswer
     ensures { Answers (change_says result) (rewritten desk.old desk.new) (rewritten table.old table.new)
         (rewritten shelf.old shelf.new) (Call.opening n) }
 {
-    if numbers::lengths::lengths_right(desk.len(), table.len(), shelf.len()) {
-        return opening::open(desk, table, shelf, n);
+    if !numbers::lengths::lengths_right(desk.len(), table.len(), shelf.len()) {
+        return Err(Refusal::BadLength);
     }
-    ChangeAnswer::Refused(1)
+    let Some(desk) = desk.as_mut_array() else {
+        return Err(Refusal::BadLength);
+    };
+    opening::open(desk, table, shelf, n)
 }
 
 pub fn insert(
@@ -53,11 +50,11 @@ pub fn insert(
     ensures { Answers (change_says result) (kept desk.now) (rewritten table.old table.new)
         (kept shelf.now) (Call.change (Change.insert k.0 body.now)) }
 {
-    let shut = own_way_in(body.len() == 52, desk, table, shelf);
-    if shut == 0 {
-        return changes::insert(desk, table, k, body);
-    }
-    ChangeAnswer::Refused(shut)
+    let Some(body) = body.as_array() else {
+        return Err(Refusal::BadLength);
+    };
+    let desk = way_in(desk, table, shelf)?;
+    changes::insert(desk, table, k, body)
 }
 
 pub fn modify(
@@ -70,32 +67,29 @@ pub fn modify(
     ensures { Answers (change_says result) (kept desk.now) (rewritten table.old table.new)
         (rewritten shelf.old shelf.new) (Call.change (Change.modify k.0 body.now)) }
 {
-    let shut = own_way_in(body.len() == 52, desk, table, shelf);
-    if shut == 0 {
-        return changes::modify(desk, table, shelf, k, body);
-    }
-    ChangeAnswer::Refused(shut)
+    let Some(body) = body.as_array() else {
+        return Err(Refusal::BadLength);
+    };
+    let desk = way_in(desk, table, shelf)?;
+    changes::modify(desk, table, shelf, k, body)
 }
 
 pub fn delete(desk: &[u8], table: &mut [u8], shelf: &mut [u8], k: RecordNumber) -> ChangeAnswer
     ensures { Answers (change_says result) (kept desk.now) (rewritten table.old table.new)
         (rewritten shelf.old shelf.new) (Call.change (Change.delete k.0)) }
 {
-    let shut = way_in(desk, table, shelf);
-    if shut == 0 {
-        return changes::delete(desk, table, shelf, k);
-    }
-    ChangeAnswer::Refused(shut)
+    let desk = way_in(desk, table, shelf)?;
+    changes::delete(desk, table, shelf, k)
 }
 
 pub fn begin(desk: &mut [u8], table: &[u8], shelf: &[u8]) -> BeginAnswer
     ensures { Answers (begin_says result) (rewritten desk.old desk.new) (kept table.now) (kept shelf.now) Call.begin }
 {
-    let shut = way_in(desk, table, shelf);
-    if shut == 0 {
-        return begins::begin(desk);
-    }
-    BeginAnswer::Refused(shut)
+    way_in(desk, table, shelf)?;
+    let Some(desk) = desk.as_mut_array() else {
+        return Err(Refusal::BadLength);
+    };
+    begins::begin(desk)
 }
 
 pub fn next(
@@ -110,33 +104,30 @@ pub fn next(
         (rewritten shelf.old shelf.new) (rewritten out.old out.new)
         (Call.next ticket.0 budget out.old) }
 {
-    let shut = own_way_in(out.len() == 56, desk, table, shelf);
-    if shut == 0 {
-        return draws::next(desk, table, shelf, ticket, budget, out);
-    }
-    NextAnswer::Refused(shut)
+    let Some(out) = out.as_mut_array() else {
+        return Err(Refusal::BadLength);
+    };
+    way_in(desk, table, shelf)?;
+    let Some(desk) = desk.as_mut_array() else {
+        return Err(Refusal::BadLength);
+    };
+    draws::next(desk, table, shelf, ticket, budget, out)
 }
 
 pub fn tally(desk: &[u8], table: &[u8], shelf: &[u8]) -> TallyAnswer
     ensures { Answers (tally_says result) (kept desk.now) (kept table.now) (kept shelf.now)
         (Call.reading Reading.tally) }
 {
-    let shut = way_in(desk, table, shelf);
-    if shut == 0 {
-        return readings::tally(table, shelf);
-    }
-    TallyAnswer::Refused(shut)
+    way_in(desk, table, shelf)?;
+    Ok(readings::tally(table, shelf))
 }
 
 pub fn owed(desk: &[u8], table: &[u8], shelf: &[u8], ticket: Ticket) -> OwedAnswer
     ensures { Answers (owed_says result) (kept desk.now) (kept table.now) (kept shelf.now)
         (Call.reading (Reading.owed ticket.0)) }
 {
-    let shut = way_in(desk, table, shelf);
-    if shut == 0 {
-        return readings::owed(desk, table, shelf, ticket);
-    }
-    OwedAnswer::Refused(shut)
+    let desk = way_in(desk, table, shelf)?;
+    readings::owed(desk, table, shelf, ticket)
 }
 
 // The 56 bytes that next with unbounded budget would hand out, as a part of table or shelf; an empty part in every other case.
@@ -145,9 +136,8 @@ pub fn peek<'a>(desk: &[u8], table: &'a [u8], shelf: &'a [u8], ticket: Ticket) -
         (kept shelf.now) (Call.reading (Reading.peek ticket.0))
         × NoCopy result desk.entry table.entry shelf.entry ticket.0 }
 {
-    let is_open = way_in(desk, table, shelf) == 0;
-    if is_open {
-        return readings::peek::peek(desk, table, shelf, ticket);
+    match way_in(desk, table, shelf) {
+        Ok(desk) => readings::peek::peek(desk, table, shelf, ticket),
+        Err(_) => &table[..0],
     }
-    &table[0..0]
 }

@@ -1,15 +1,18 @@
-// The static library that a C host links: the calls of the crate inarumpit under their C names, with the same clauses.
+// The static library that a C host links: numbers and byte buffers in, one 64-bit number back, answer + 256 × value.
 #![tactic(auto)]
 
 ghost use Rattle.rules.specs.Promises.{Returns, ReturnsOut, rewritten, kept};
 ghost use Rattle.rules.specs.Refusals.{Call, Change, Reading};
+
+use inarumpit::calls;
+use rules::{RecordNumber, Ticket};
 
 #[unsafe(no_mangle)]
 pub extern "C" fn inarumpit_open(desk: &mut [u8], table: &mut [u8], shelf: &mut [u8], n: u32) -> u64
     ensures { Returns result (rewritten desk.old desk.new) (rewritten table.old table.new)
         (rewritten shelf.old shelf.new) (Call.opening n) }
 {
-    inarumpit::inarumpit_open(desk, table, shelf, n)
+    packing::number(calls::open(desk, table, shelf, n))
 }
 
 #[unsafe(no_mangle)]
@@ -23,7 +26,7 @@ pub extern "C" fn inarumpit_insert(
     ensures { Returns result (kept desk.now) (rewritten table.old table.new) (kept shelf.now)
         (Call.change (Change.insert number body.now)) }
 {
-    inarumpit::inarumpit_insert(desk, table, shelf, number, body)
+    packing::number(calls::insert(desk, table, shelf, RecordNumber(number), body))
 }
 
 #[unsafe(no_mangle)]
@@ -37,7 +40,7 @@ pub extern "C" fn inarumpit_modify(
     ensures { Returns result (kept desk.now) (rewritten table.old table.new)
         (rewritten shelf.old shelf.new) (Call.change (Change.modify number body.now)) }
 {
-    inarumpit::inarumpit_modify(desk, table, shelf, number, body)
+    packing::number(calls::modify(desk, table, shelf, RecordNumber(number), body))
 }
 
 #[unsafe(no_mangle)]
@@ -50,14 +53,14 @@ pub extern "C" fn inarumpit_delete(
     ensures { Returns result (kept desk.now) (rewritten table.old table.new)
         (rewritten shelf.old shelf.new) (Call.change (Change.delete number)) }
 {
-    inarumpit::inarumpit_delete(desk, table, shelf, number)
+    packing::number(calls::delete(desk, table, shelf, RecordNumber(number)))
 }
 
 #[unsafe(no_mangle)]
 pub extern "C" fn inarumpit_begin(desk: &mut [u8], table: &[u8], shelf: &[u8]) -> u64
     ensures { Returns result (rewritten desk.old desk.new) (kept table.now) (kept shelf.now) Call.begin }
 {
-    inarumpit::inarumpit_begin(desk, table, shelf)
+    packing::number(calls::begin(desk, table, shelf))
 }
 
 #[unsafe(no_mangle)]
@@ -73,19 +76,19 @@ pub extern "C" fn inarumpit_next(
         (rewritten shelf.old shelf.new) (rewritten out.old out.new)
         (Call.next ticket budget out.old) }
 {
-    inarumpit::inarumpit_next(desk, table, shelf, ticket, budget, out)
+    packing::number(calls::next(desk, table, shelf, Ticket(ticket), budget, out))
 }
 
 #[unsafe(no_mangle)]
 pub extern "C" fn inarumpit_tally(desk: &[u8], table: &[u8], shelf: &[u8]) -> u64
     ensures { Returns result (kept desk.now) (kept table.now) (kept shelf.now) (Call.reading Reading.tally) }
 {
-    inarumpit::inarumpit_tally(desk, table, shelf)
+    packing::number(calls::tally(desk, table, shelf))
 }
 
 #[unsafe(no_mangle)]
 pub extern "C" fn inarumpit_owed(desk: &[u8], table: &[u8], shelf: &[u8], ticket: u32) -> u64
     ensures { Returns result (kept desk.now) (kept table.now) (kept shelf.now) (Call.reading (Reading.owed ticket)) }
 {
-    inarumpit::inarumpit_owed(desk, table, shelf, ticket)
+    packing::number(calls::owed(desk, table, shelf, Ticket(ticket)))
 }

@@ -16,7 +16,8 @@ use Rattle.rules.specs.Next.{desk_with}
 use Rattle.rules.proofs.Bytes.{length-to_le, le_to_le}
 use Rattle.rules.proofs.Each.{each_same, each_set}
 use Rattle.layout.specs.Puts.{put, put32, put64}
-use Rattle.layout.proofs.Fields.{put-put, field-put-same, field-put-before, field-put-after, field_put_in, length-put}
+use Rattle.layout.proofs.Fields.{put-put, field-put-same, field-put-before, field-put-after, field_put_in}
+use Rattle.layout.specs.Laws.{length-put}
 use Rattle.joins.proofs.Slots.{apart}
 
 -- the desk with another last ticket; with other masks

@@ -15,7 +15,7 @@ use Rattle.rules.specs.Memory.{Slot, slot, free, slot_at, slots_of, masks_of, de
 use Rattle.rules.proofs.Bits.{not_small}
 use Rattle.rules.proofs.Bytes.{length-field, length-to_le}
 use Rattle.layout.specs.Puts.{put, put32, put64}
-use Rattle.layout.proofs.Fields.{length-put}
+use Rattle.layout.specs.Laws.{length-put}
 use Rattle.joins.proofs.Slots.{count, at, field-field, number_put, body-put, mask-put, version-put, clear_put}
 
 -- ---- lengths stay

@@ -12,7 +12,8 @@ use Rattle.rules.specs.Memory.{free, idle, desk, each, slot_at, slots_of, card_a
 use Rattle.rules.proofs.Bytes.{length-to_le}
 use Rattle.rules.proofs.Each.{each_same}
 use Rattle.layout.specs.Puts.{put, put32}
-use Rattle.layout.proofs.Fields.{put-put, field_put_in, field-put-after, length-put}
+use Rattle.layout.proofs.Fields.{put-put, field_put_in, field-put-after}
+use Rattle.layout.specs.Laws.{length-put}
 use Rattle.joins.proofs.Desks.{cards-same, masks-put, inside, at_end_lem}
 
 -- ---- zeros read as zero

@@ -11,6 +11,7 @@ use lib.Bits.{bit_xor, xor_zero_l}
 use lib.Dec.{eqb}
 use lib.ListN.{length}
 use borrow.Author.Tests.{eq-eqb, ne_eqb, eqb-true, eqb-false}
+use Rattle.std.specs.Int.{from_bool}
 use Rattle.rules.specs.Bytes.{u32_at, u64_at}
 use Rattle.rules.specs.Calls.{first, slot_in, in_use, bearing, count as count_of}
 use Rattle.rules.specs.Masks.{bit, off}
@@ -32,21 +33,16 @@ bearing_is l k = rw (count l, sub-zero (length l / 64)) refl
 
 -- ---- one turn of a count
 
--- 1 where a test passes
-abbrev pub one_if : Bool → ℕ
-one_if true = 1
-one_if false = 0
-
-count_cons : (p : Slot → Bool) (s : Slot) (ss : List Slot) → count_of p (s ∷ ss) ≡ one_if (p s) + count_of p ss
+count_cons : (p : Slot → Bool) (s : Slot) (ss : List Slot) → count_of p (s ∷ ss) ≡ from_bool (p s) + count_of p ss
 unfolding count_of
 count_cons p s ss = go (p s) refl
   where
-    go : (b : Bool) → p s ≡ b → elim (p s) as (λ (x : Bool). ℕ) [ true ↦ suc (count_of p ss) | false ↦ count_of p ss ] ≡ one_if (p s) + count_of p ss
+    go : (b : Bool) → p s ≡ b → elim (p s) as (λ (x : Bool). ℕ) [ true ↦ suc (count_of p ss) | false ↦ count_of p ss ] ≡ from_bool (p s) + count_of p ss
     go true e = rw (e) (sym (add-one (count_of p ss) ∙ refl) ∙ omega arith)
     go false e = rw (e) (sym (zero-add (count_of p ss)))
 
 module _ (p : Slot → Bool) (f : ℕ → Slot) (i s : ℕ) where
-  pub count_turn : i < s → count_of p (each f i (s - i)) ≡ one_if (p (f i)) + count_of p (each f (i + 1) (s - (i + 1)))
+  pub count_turn : i < s → count_of p (each f i (s - i)) ≡ from_bool (p (f i)) + count_of p (each f (i + 1) (s - (i + 1)))
   unfolding each
   count_turn h = let z : s - i ≡ suc (s - suc i) = omega arith in rw (z, add-one i) (count_cons p (f i) (each f (suc i) (s - suc i)))
 

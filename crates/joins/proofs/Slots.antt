@@ -13,7 +13,8 @@ use Rattle.rules.specs.Memory.{slot, free, T, R, slot_at, slots_of, store_of}
 use Rattle.rules.proofs.Bytes.{length-to_le, le_to_le}
 use Rattle.rules.proofs.Each.{length-each, at_each, each_set}
 use Rattle.layout.specs.Puts.{put, put32, put64}
-use Rattle.layout.proofs.Fields.{field-put-same, field-put-before, field-put-after, field_put_in, length-put}
+use Rattle.layout.proofs.Fields.{field-put-same, field-put-before, field-put-after, field_put_in}
+use Rattle.layout.specs.Laws.{length-put}
 
 -- ---- the slots of a buffer
 

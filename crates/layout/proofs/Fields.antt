@@ -1,18 +1,13 @@
 -- Laws of `field` and `put`, over any width and offset.
-use mathlib.Core.Path.{◌≡◌, refl, sym, ap, ◌∙◌}
+use mathlib.Core.Path.{◌≡◌, refl, ap, ◌∙◌}
 use mathlib.Core.List.{List, ◌++◌, append_assoc, append-nil}
 use Prim.Native.Nat.{ℕ, ◌+◌, ◌-◌, ◌≤◌, ◌<◌}
 use native.Mathlib.Nat.{zero-add}
-use native.Mathlib.Numerals.{add-one}
 use native.Mathlib.Omega.{arith}
-use lib.ListN.{length, take, drop, get_or, set, length-append, length-drop, length-replicate, replicate}
-use lib.Seq.{ext_get_or, get_or-take, get_or-drop, drop-append-add, paste, paste-zero, paste-suc, take-append-le, drop-append-le, take_at, drop_at, drop-drop, length-take-le, take-append_seam, drop-length}
+use lib.ListN.{length, take, drop, length-append, length-drop}
+use lib.Seq.{ext_get_or, get_or-take, get_or-drop, drop-append-add, take-append-le, drop-append-le, take_at, drop_at, drop-drop, length-take-le, take-append_seam, drop-length}
 use Rattle.rules.specs.Bytes.{field}
 use Rattle.layout.specs.Puts.{put}
-
-pub length-put : (l : List ℕ) (at : ℕ) (vs : List ℕ) → at + length vs ≤ length l → length (put l at vs) ≡ length l
-unfolding put
-length-put l at vs h = simp (length-append, length-drop, length-take-le at l (omega arith)) (omega arith)
 
 pub put-put : (l : List ℕ) (at : ℕ) (a b : List ℕ) (at' : ℕ) → at' ≡ at + length a → at + length a + length b ≤ length l → put (put l at a) at' b ≡ put l at (a ++ b)
 unfolding put
@@ -25,19 +20,6 @@ put-put l at a b at' e h =
     let d : drop (at' + length b) (take at l ++ (a ++ rest)) ≡ drop (at + (length a + length b)) l =
     rw (← append_assoc (take at l) a rest, ← drop-drop (length b) at' (head ++ rest), drop_at head rest at' n, drop-drop (length b) (at + length a) l, q) refl in
     rw (t, d, length-append, append_assoc, append_assoc) refl
-
--- ---- a loop that writes s one element at a time
-
-put_paste : (d : List ℕ) (at : ℕ) (s : List ℕ) (n : ℕ) → n ≤ length s → put d at (take n s) ≡ paste d at s n
-unfolding put
-put_paste d at s n h = rw (length-take-le n s h) (sym (append_assoc (take at d) (take n s) (drop (at + n) d)))
-
-pub put-none : (d : List ℕ) (at : ℕ) (s : List ℕ) → d ≡ put d at (take 0 s)
-put-none d at s = paste-zero d at s ∙ sym (put_paste d at s 0 (omega arith))
-
-pub put_step : (d : List ℕ) (at : ℕ) (s : List ℕ) (j : ℕ) → at + length s ≤ length d → j < length s → set (put d at (take j s)) (at + j) (get_or s j 0) ≡ put d at (take (j + 1) s)
-put_step d at s j h k =
-    rw (put_paste d at s j (omega arith), put_paste d at s (j + 1) (omega arith), add-one j) (paste-suc d at s j 0 (omega arith) k)
 
 -- ---- reading after a write
 
@@ -80,10 +62,7 @@ pub put_whole : (l vs : List ℕ) → length vs ≡ length l → put l 0 vs ≡ 
 unfolding put
 put_whole l vs e = rw (zero-add (length vs), e, drop-length l) (append-nil vs)
 
--- k bytes lent as n, and zeroed
-pub part-cleared : (l : List ℕ) (at k n : ℕ) → n ≡ k → at + k ≤ length l → {vs : List ℕ} → vs ≡ replicate (length (take n (drop at l))) 0
-    → take at l ++ (vs ++ drop n (drop at l)) ≡ put l at (replicate k 0)
+-- k bytes lent as n, and written over
+pub part-written : (l : List ℕ) (at k n : ℕ) → n ≡ k → at + k ≤ length l → {vs ws : List ℕ} → vs ≡ ws → length ws ≡ k → take at l ++ (vs ++ drop n (drop at l)) ≡ put l at ws
 unfolding put
-part-cleared l at k n e h ev =
-    let m : length (take n (drop at l)) ≡ k = length-take-le n (drop at l) (rw (length-drop at l) (omega arith)) ∙ e in
-    rw (ev, m, drop-drop n at l, e, length-replicate {A = ℕ} k 0) refl
+part-written l at k n e h {vs} {ws} ev m = rw (ev, drop-drop n at l, e, m) refl

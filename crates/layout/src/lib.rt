@@ -1,118 +1,97 @@
 // Numbers and slots in lent bytes: the one place where bytes are read and written.
 #![tactic(auto)]
 
-ghost use Rattle.std.specs.Prelude.{◌≡◌, ◌+◌, ◌*◌, ◌≤◌, ◌<◌, length, replicate};
+ghost use Rattle.std.specs.Prelude.{◌≡◌, ℕ, ◌+◌, ◌≤◌, List, length, replicate};
 ghost use Rattle.rules.specs.Bytes.{field, u32_at, u64_at};
+ghost use Rattle.rules.proofs.Bytes.{Bytes};
 ghost use Rattle.layout.specs.Puts.{put, put32, put64};
+ghost use Rattle.layout.specs.Laws.{length-put32, length-put64, put32-back, put64-back};
 
-fn wide32(x: u8) -> u32
-    ensures { (result ≡ x) × (result < 256) }
-{
-    x as u32
+// A number as lent bytes hold it, from an offset on. Its two bodies differ in the type alone, whose bytes std gives by methods of
+// each type and by no trait.
+pub trait Word: Copy {
+    ghost width: { ℕ };
+
+    ghost spelt: { List ℕ → ℕ → Self };
+
+    ghost written: { List ℕ → ℕ → Self → List ℕ };
+
+    fn at(s: &[u8], at: usize) -> Self
+        requires { at + width ≤ length s.now }
+        ensures { result ≡ spelt s.now at };
+
+    fn put_at(self, s: &mut [u8], at: usize)
+        requires { at + width ≤ length s.old }
+        ensures { s.new ≡ written s.old at self };
+
+    // A write leaves the length, and what is spelt there, written there, leaves every byte.
+    ghost keeps_length: { (l : List ℕ) (i : ℕ) (x : Self) → i + width ≤ length l → length (written l i x) ≡ length l };
+
+    ghost puts_back: { (l : List ℕ) (i : ℕ) → Bytes l → i + width ≤ length l → written l i (spelt l i) ≡ l };
 }
 
-pub fn get32(s: &[u8], at: usize) -> u32
-    requires { at + 4 ≤ length s.now }
-    ensures { result ≡ u32_at s.now at }
-{
-    wide32(s[at])
-        + 256 * wide32(s[at + 1])
-        + 65536 * wide32(s[at + 2])
-        + 16777216 * wide32(s[at + 3])
-}
+impl Word for u32 {
+    ghost width = { 4 };
 
-pub fn get64(s: &[u8], at: usize) -> u64
-    requires { at + 8 ≤ length s.now }
-    ensures { result ≡ u64_at s.now at }
-{
-    get32(s, at) as u64 + 0x1_0000_0000 * (get32(s, at + 4) as u64)
-}
+    ghost spelt = { u32_at };
 
-pub fn set32(s: &mut [u8], at: usize, v: u32)
-    requires { at + 4 ≤ length s.old }
-    ensures { s.new ≡ put32 s.old at v }
-{
-    let v1 = v / 256;
-    let v2 = v1 / 256;
-    let v3 = v2 / 256;
-    s[at] = (v % 256) as u8;
-    s[at + 1] = (v1 % 256) as u8;
-    s[at + 2] = (v2 % 256) as u8;
-    s[at + 3] = (v3 % 256) as u8;
-}
+    ghost written = { put32 };
 
-pub fn set64(s: &mut [u8], at: usize, v: u64)
-    requires { at + 8 ≤ length s.old }
-    ensures { s.new ≡ put64 s.old at v }
-{
-    let v1 = v / 256;
-    let v2 = v1 / 256;
-    let v3 = v2 / 256;
-    let v4 = v3 / 256;
-    let v5 = v4 / 256;
-    let v6 = v5 / 256;
-    let v7 = v6 / 256;
-    s[at] = (v % 256) as u8;
-    s[at + 1] = (v1 % 256) as u8;
-    s[at + 2] = (v2 % 256) as u8;
-    s[at + 3] = (v3 % 256) as u8;
-    s[at + 4] = (v4 % 256) as u8;
-    s[at + 5] = (v5 % 256) as u8;
-    s[at + 6] = (v6 % 256) as u8;
-    s[at + 7] = (v7 % 256) as u8;
-}
+    ghost keeps_length = { λ l i x. length-put32 l i x };
 
-// Twenty-four bytes of src written over dst, three words at once.
-fn copy24(dst: &mut [u8], to: usize, src: &[u8], from: usize)
-    requires { (to + 24 ≤ length dst.old) × (from + 24 ≤ length src.now) }
-    ensures { dst.new ≡ put dst.old to (field 24 from src.now) }
-{
-    let a = get64(src, from);
-    let b = get64(src, from + 8);
-    let c = get64(src, from + 16);
-    set64(dst, to, a);
-    set64(dst, to + 8, b);
-    set64(dst, to + 16, c);
-}
+    ghost puts_back = { λ l i b h. put32-back l i b h };
 
-// What a body and a version have in common: all but the last word.
-fn copy48(dst: &mut [u8], to: usize, src: &[u8], from: usize)
-    requires { (to + 48 ≤ length dst.old) × (from + 48 ≤ length src.now) }
-    ensures { dst.new ≡ put dst.old to (field 48 from src.now) }
-{
-    copy24(dst, to, src, from);
-    copy24(dst, to + 24, src, from + 24);
-}
-
-// The 52 bytes of a body.
-pub fn copy_body(dst: &mut [u8], to: usize, src: &[u8], from: usize)
-    requires { (to + 52 ≤ length dst.old) × (from + 52 ≤ length src.now) }
-    ensures { dst.new ≡ put dst.old to (field 52 from src.now) }
-{
-    copy48(dst, to, src, from);
-    let g = get32(src, from + 48);
-    set32(dst, to + 48, g);
-}
-
-// The 56 bytes of a version: number and body.
-pub fn copy_version(dst: &mut [u8], to: usize, src: &[u8], from: usize)
-    requires { (to + 56 ≤ length dst.old) × (from + 56 ≤ length src.now) }
-    ensures { dst.new ≡ put dst.old to (field 56 from src.now) }
-{
-    copy48(dst, to, src, from);
-    let g = get64(src, from + 48);
-    set64(dst, to + 48, g);
-}
-
-// A whole buffer zeroed.
-pub fn clear_all(dst: &mut [u8])
-    ensures { dst.new ≡ replicate (length dst.old) 0 }
-{
-    let mut i: usize = 0;
-    while i < dst.len() {
-        dst[i] = 0;
-        i += 1;
+    fn at(s: &[u8], at: usize) -> u32 {
+        u32::from_le_bytes(part(s, at))
     }
+
+    fn put_at(self, s: &mut [u8], at: usize) {
+        put_part(s, at, &self.to_le_bytes());
+    }
+}
+
+impl Word for u64 {
+    ghost width = { 8 };
+
+    ghost spelt = { u64_at };
+
+    ghost written = { put64 };
+
+    ghost keeps_length = { λ l i x. length-put64 l i x };
+
+    ghost puts_back = { λ l i b h. put64-back l i b h };
+
+    fn at(s: &[u8], at: usize) -> u64 {
+        u64::from_le_bytes(part(s, at))
+    }
+
+    fn put_at(self, s: &mut [u8], at: usize) {
+        put_part(s, at, &self.to_le_bytes());
+    }
+}
+
+// N bytes from an offset on.
+fn part<const N: usize>(s: &[u8], at: usize) -> [u8; N]
+    requires { at + N ≤ length s.now }
+    ensures { result ≡ field N at s.now }
+{
+    s[at..at + N].try_into().unwrap()
+}
+
+fn put_part<const N: usize>(s: &mut [u8], at: usize, bytes: &[u8; N])
+    requires { at + N ≤ length s.old }
+    ensures { s.new ≡ put s.old at bytes.now }
+{
+    s[at..at + N].copy_from_slice(bytes);
+}
+
+// N bytes of src written over dst.
+pub fn copy<const N: usize>(dst: &mut [u8], to: usize, src: &[u8], from: usize)
+    requires { (to + N ≤ length dst.old) × (from + N ≤ length src.now) }
+    ensures { dst.new ≡ put dst.old to (field N from src.now) }
+{
+    let bytes: [u8; N] = part(src, from);
+    put_part(dst, to, &bytes);
 }
 
 // A freed slot or entry becomes 64 zero bytes.
@@ -120,5 +99,5 @@ pub fn clear_slot(dst: &mut [u8], at: usize)
     requires { at + 64 ≤ length dst.old }
     ensures { dst.new ≡ put dst.old at (replicate 64 0) }
 {
-    clear_all(&mut dst[at..at + 64]);
+    put_part(dst, at, &[0; 64]);
 }

@@ -1,4 +1,5 @@
 -- A walk over a table and then a shelf, from the walks over each.
+use mathlib.Core.Logic.{◌⊎◌, inl, inr}
 use mathlib.Core.Path.{◌≡◌, refl, sym, ap, ◌∙◌}
 use mathlib.Core.Bool.{Bool}
 use mathlib.Core.List.{List}
@@ -37,22 +38,13 @@ ways h from b end = go (dec_lt (stop_of h from b end) (min (from + b) end)) (dec
 
 -- ---- the looks of a walk
 
-module _ (h : ℕ → Bool) (from b end : ℕ) (there : from ≤ end) where
-  pub looks-places : (walked_of h from b end).looks ≤ end - from
-  looks-places = go (ways h from b end)
-    where
-      go : Ways h from b end → (walked_of h from b end).looks ≤ end - from
-      go (hit x) = omega (arith, ap (λ (w : Walked). w.looks) (hits h from b end x))
-      go (spent x y) = omega (arith, ap (λ (w : Walked). w.looks) (spends h from b end x y))
-      go (ended x y) = omega (arith, ap (λ (w : Walked). w.looks) (ends h from b end x y))
-
-  pub looks-budget : (walked_of h from b end).looks ≤ b
-  looks-budget = go (ways h from b end)
-    where
-      go : Ways h from b end → (walked_of h from b end).looks ≤ b
-      go (hit x) = omega (arith, ap (λ (w : Walked). w.looks) (hits h from b end x))
-      go (spent x y) = omega (arith, ap (λ (w : Walked). w.looks) (spends h from b end x y))
-      go (ended x y) = omega (arith, ap (λ (w : Walked). w.looks) (ends h from b end x y))
+looks_places : (h : ℕ → Bool) (from b end : ℕ) → from ≤ end → (walked_of h from b end).looks ≤ end - from
+looks_places h from b end there = go (ways h from b end)
+  where
+    go : Ways h from b end → (walked_of h from b end).looks ≤ end - from
+    go (hit x) = omega (arith, ap (λ (w : Walked). w.looks) (hits h from b end x))
+    go (spent x y) = omega (arith, ap (λ (w : Walked). w.looks) (spends h from b end x y))
+    go (ended x y) = omega (arith, ap (λ (w : Walked). w.looks) (ends h from b end x y))
 
 -- ---- a walk that is d looks and then another walk, c places on
 
@@ -114,24 +106,16 @@ module _ (h ht hs : ℕ → Bool) (T R place b : ℕ) (table : (q : ℕ) → q <
         let u : place + d ≡ T + 0 = omega arith in
         ap (λ (j : ℕ). first h place j) (reach T R place b d m x y) ∙ first_split_none h place d (min (0 + m) R - 0) (omega arith) ∙ ap (λ (j : ℕ). first h j (min (0 + m) R - 0)) u ∙ later 0 (min (0 + m) R - 0)
 
-    pub table-record : (walked_of ht place b T).seen ≡ Seen.Record → walked_of h place b (T + R) ≡ walked_of ht place b T
-    table-record s = go (ways ht place b T)
+    pub table_stops : ((walked_of ht place b T).seen ≡ Seen.End → ⊥) → walked_of h place b (T + R) ≡ walked_of ht place b T
+    table_stops s = go (ways ht place b T)
       where
         go : Ways ht place b T → walked_of h place b (T + R) ≡ walked_of ht place b T
         go (hit x) = hits h place b (T + R) (omega (arith, found x)) ∙ ap (λ (q : ℕ). walked Seen.Record (suc q - place) (b - (suc q - place))) (found x) ∙ sym (hits ht place b T x)
-        go (spent x y) = let z : ◌≡◌ {A = ℕ} 0 1 = cc (ap (λ (w : Walked). w.seen) (spends ht place b T x y)) in absurd (omega arith)
-        go (ended x y) = let z : ◌≡◌ {A = ℕ} 0 1 = cc (ap (λ (w : Walked). w.seen) (ends ht place b T x y)) in absurd (omega arith)
-
-    pub table_spent : (walked_of ht place b T).seen ≡ Seen.Spent → walked_of h place b (T + R) ≡ walked_of ht place b T
-    table_spent s = go (ways ht place b T)
-      where
-        go : Ways ht place b T → walked_of h place b (T + R) ≡ walked_of ht place b T
-        go (hit x) = let z : ◌≡◌ {A = ℕ} 0 1 = cc (ap (λ (w : Walked). w.seen) (hits ht place b T x)) in absurd (omega arith)
         go (spent x y) =
             let n : min (place + b) (T + R) - place ≡ min (place + b) T - place = omega arith in
             let e : stop_of h place b (T + R) ≡ stop_of ht place b T = ap (λ (k : ℕ). first h place k) n ∙ sooner (min (place + b) T - place) (omega arith) in
             spends h place b (T + R) (omega arith) (omega arith) ∙ sym (spends ht place b T x y)
-        go (ended x y) = let z : ◌≡◌ {A = ℕ} 0 1 = cc (ap (λ (w : Walked). w.seen) (ends ht place b T x y)) in absurd (omega arith)
+        go (ended x y) = absurd (s (ap (λ (w : Walked). w.seen) (ends ht place b T x y)))
 
     pub table_end : (walked_of ht place b T).seen ≡ Seen.End → walked_of h place b (T + R) ≡ onto hs R (walked_of ht place b T)
     table_end s = go (ways ht place b T)
@@ -163,21 +147,22 @@ module _ (stable p : ℕ) (t s : List ℕ) (place b : ℕ) where
     seek_shelf g e = e ∙ sym (from-shelf (hit_in stable p (slots_of t) (slots_of s)) (waits_in stable p (slots_of t)) (waits_in 0 p (slots_of s)) (length t / 64) (length s / 64) place b in_table on_shelf_lem fits g)
 
     module _ (within : place < length t / 64) {w : Walked} (e : w ≡ walked_of (waits_in stable p (slots_of t)) place b (length t / 64)) where
-      seen_as : {x : Seen} → w.seen ≡ x → (walked_of (waits_in stable p (slots_of t)) place b (length t / 64)).seen ≡ x
-      seen_as y = sym (ap (λ (v : Walked). v.seen) e) ∙ y
+      not_both : (w.seen ≡ Seen.Record) ⊎ (w.seen ≡ Seen.Spent) → w.seen ≡ Seen.End → ⊥
+      not_both (inl x) z = cc
+      not_both (inr x) z = cc
 
-      pub seek_record : w.seen ≡ Seen.Record → w ≡ walked_of (hit_in stable p (slots_of t) (slots_of s)) place b (length t / 64 + length s / 64)
-      seek_record y = e ∙ sym (table-record (hit_in stable p (slots_of t) (slots_of s)) (waits_in stable p (slots_of t)) (waits_in 0 p (slots_of s)) (length t / 64) (length s / 64) place b in_table on_shelf_lem fits within (seen_as y))
+      seen_as : {x : Seen} → (walked_of (waits_in stable p (slots_of t)) place b (length t / 64)).seen ≡ x → w.seen ≡ x
+      seen_as y = ap (λ (v : Walked). v.seen) e ∙ y
 
-      pub seek_spent : w.seen ≡ Seen.Spent → w ≡ walked_of (hit_in stable p (slots_of t) (slots_of s)) place b (length t / 64 + length s / 64)
-      seek_spent y = e ∙ sym (table_spent (hit_in stable p (slots_of t) (slots_of s)) (waits_in stable p (slots_of t)) (waits_in 0 p (slots_of s)) (length t / 64) (length s / 64) place b in_table on_shelf_lem fits within (seen_as y))
+      pub seek_stops : (w.seen ≡ Seen.Record) ⊎ (w.seen ≡ Seen.Spent) → w ≡ walked_of (hit_in stable p (slots_of t) (slots_of s)) place b (length t / 64 + length s / 64)
+      seek_stops y = e ∙ sym (table_stops (hit_in stable p (slots_of t) (slots_of s)) (waits_in stable p (slots_of t)) (waits_in 0 p (slots_of s)) (length t / 64) (length s / 64) place b in_table on_shelf_lem fits within (λ z. not_both y (seen_as z)))
 
       module _ {v : Walked} (e' : v ≡ walked_of (waits_in 0 p (slots_of s)) 0 w.left (length s / 64)) where
         pub seek_looks : w.looks + v.looks ≤ length t / 64 + length s / 64
-        seek_looks = omega (arith, ap (λ (x : Walked). x.looks) e, ap (λ (x : Walked). x.looks) e', looks-places (waits_in stable p (slots_of t)) place b (length t / 64) (omega arith), looks-places (waits_in 0 p (slots_of s)) 0 w.left (length s / 64) (omega arith))
+        seek_looks = omega (arith, ap (λ (x : Walked). x.looks) e, ap (λ (x : Walked). x.looks) e', looks_places (waits_in stable p (slots_of t)) place b (length t / 64) (omega arith), looks_places (waits_in 0 p (slots_of s)) 0 w.left (length s / 64) (omega arith))
 
         pub seek_end : w.seen ≡ Seen.End → walked v.seen (w.looks + v.looks) v.left ≡ walked_of (hit_in stable p (slots_of t) (slots_of s)) place b (length t / 64 + length s / 64)
         seek_end y =
             ap (λ (x : Walked). walked x.seen (w.looks + x.looks) x.left) e'
             ∙ ap (onto (waits_in 0 p (slots_of s)) (length s / 64)) e
-            ∙ sym (table_end (hit_in stable p (slots_of t) (slots_of s)) (waits_in stable p (slots_of t)) (waits_in 0 p (slots_of s)) (length t / 64) (length s / 64) place b in_table on_shelf_lem fits within (seen_as y))
+            ∙ sym (table_end (hit_in stable p (slots_of t) (slots_of s)) (waits_in stable p (slots_of t)) (waits_in 0 p (slots_of s)) (length t / 64) (length s / 64) place b in_table on_shelf_lem fits within (sym (ap (λ (v : Walked). v.seen) e) ∙ y))

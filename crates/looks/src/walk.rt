@@ -3,41 +3,37 @@ ghost use Rattle.std.specs.Prelude.{◌≡◌, ◌+◌, ◌-◌, ◌/◌, ◌≤
 ghost use Rattle.rules.specs.Memory.{slots_of};
 ghost use Rattle.looks.specs.Walked.{waits_in, walked_of, sought_of};
 
-use masks::Masks;
+use masks::Awaiting;
 use rules::{Position, SlotNumber};
 
 // How a walk ended: a record in hand, the budget of looks spent, or at the end.
-#[derive(Clone, Copy)]
+#[derive(Clone, Copy, Debug, PartialEq, Eq)]
 pub enum Seen {
     Record,
     Spent,
     End,
 }
 
-// A walk's answer, with the looks that it made and the budget left.
-#[derive(Clone, Copy)]
+// A walk's answer, with the looks that it made and the budget left, which every end has.
+#[derive(Clone, Copy, Debug, PartialEq, Eq)]
 pub struct Walked {
     pub seen: Seen,
     pub looks: u32,
     pub left: u32,
 }
 
-fn least(a: usize, b: usize) -> usize
-    ensures { result ≡ min a b }
-{
-    if a < b { a } else { b }
-}
-
-// Looks from slot `from` on until a version that the scan at p waits for, the budget spent or the last slot.
-pub fn walk(slots: &[u8], from: SlotNumber, budget: u32, flip: u64, p: Position) -> Walked
-    requires { (from.0 ≤ length slots.now / 64) × (length slots.now / 64 < 4294967296) × (p.0 < 64) }
-    ensures { result ≡ walked_of (waits_in flip p.0 (slots_of slots.now)) from.0 budget (length slots.now / 64) }
+// Looks from slot `from` on until a version that the scan awaits, the budget spent or the last slot.
+#[tactic(auto, using(crate::proofs::Walked::one_on, crate::proofs::Walked::unawaited, crate::proofs::Walked::waits_here, crate::proofs::Walked::walked_hit, crate::proofs::Walked::walked_spent))]
+pub fn walk(slots: &[u8], from: SlotNumber, budget: u32, scan: Awaiting) -> Walked
+    requires { (from.0 ≤ length slots.now / 64) × (length slots.now / 64 < 4294967296) × (scan.position.0 < 64) }
+    ensures { result ≡ walked_of (waits_in scan.flip scan.position.0 (slots_of slots.now)) from.0 budget (length slots.now / 64) }
 {
     let end = slots::slot_count(slots);
-    let start = from.index();
-    let stop = least(start + budget as usize, end);
+    let start = usize::from(from);
+    let stop = (start + budget as usize).min(end);
     let mut i = start;
-    let got = loop {
+    // No range gives the next look: it is where a run of empty blocks ends.
+    loop {
         if i >= stop {
             if stop < end {
                 break Walked {
@@ -55,11 +51,11 @@ pub fn walk(slots: &[u8], from: SlotNumber, budget: u32, flip: u64, p: Position)
         }
         let here = SlotNumber(i);
         i += 1;
-        if slots::number_at(slots, here).is_none() {
-            i = search::past_empty(slots, SlotNumber(i), SlotNumber(stop)).index();
+        if !slots::in_use(slots, here) {
+            i = usize::from(search::past_empty(slots, SlotNumber(i), SlotNumber(stop)));
             continue;
         }
-        if masks::has_bit(flip ^ slots::mask_at(slots, here), p) {
+        if !scan.awaits(slots::mask_at(slots, here)) {
             continue;
         }
         let looks = (i - start) as u32;
@@ -68,11 +64,11 @@ pub fn walk(slots: &[u8], from: SlotNumber, budget: u32, flip: u64, p: Position)
             looks: looks,
             left: budget - looks,
         };
-    };
-    got
+    }
 }
 
 // The whole walk, table first, then shelf: place T + k is shelf entry k.
+#[tactic(auto, using(crate::proofs::Seek::seek_stops, crate::proofs::Seek::seek_end, crate::proofs::Seek::seek_shelf))]
 pub fn seek(
     stable: u64,
     table: &[u8],
@@ -85,23 +81,24 @@ pub fn seek(
     ensures { result ≡ sought_of stable p.0 table.now shelf.now place budget }
 {
     let slots = slots::slot_count(table);
-    if place < slots {
-        let there = walk(table, SlotNumber(place), budget, stable, p);
-        let seen = there.seen;
-        match seen {
-            Seen::Record | Seen::Spent => {
-                return there;
-            }
-            Seen::End => {
-                let then = walk(shelf, SlotNumber(0), there.left, Masks::NO_FLIP, p);
-                let then_seen = then.seen;
-                return Walked {
-                    seen: then_seen,
-                    looks: there.looks + then.looks,
-                    left: then.left,
-                };
+    let on_shelf = Awaiting::on_shelf(p);
+    if place >= slots {
+        return walk(shelf, SlotNumber(place - slots), budget, on_shelf);
+    }
+    let there = walk(
+        table,
+        SlotNumber(place),
+        budget,
+        Awaiting::in_table(stable, p),
+    );
+    match there.seen {
+        Seen::Record | Seen::Spent => there,
+        Seen::End => {
+            let then = walk(shelf, SlotNumber(0), there.left, on_shelf);
+            Walked {
+                looks: there.looks + then.looks,
+                ..then
             }
         }
     }
-    walk(shelf, SlotNumber(place - slots), budget, Masks::NO_FLIP, p)
 }

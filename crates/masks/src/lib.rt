@@ -1,13 +1,13 @@
 // The three masks of the desk, by value: each move of document 000, section III-A, hands them back.
 #![tactic(auto)]
 
-ghost use Rattle.std.specs.Prelude.{◌≡◌, ◌<◌};
-ghost use Rattle.rules.specs.Masks.{fresh as fresh_masks, walk_begun as begun_masks, walk_ended, ended as ended_masks, new_status, m_of, on, scan_mask};
+ghost use Rattle.std.specs.Prelude.{◌≡◌, ◌<◌, bit_xor};
+ghost use Rattle.rules.specs.Masks.{fresh as fresh_masks, walk_begun as begun_masks, walk_ended, ended as ended_masks, new_status, m_of, on, off, scan_mask};
 ghost use Rattle.masks.specs.Held.{held};
 
 use rules::Position;
 
-#[derive(Clone, Copy)]
+#[derive(Clone, Copy, Debug, PartialEq, Eq)]
 pub struct Masks {
     pub stable: u64,
     pub active: u64,
@@ -16,9 +16,6 @@ pub struct Masks {
 
 impl Masks {
     pub const ALL_ONES: u64 = 0xffff_ffff_ffff_ffff;
-
-    // What stands for the stable mask on the shelf: an entry waits for a scan where its own bit is 0.
-    pub const NO_FLIP: u64 = 0;
 
     // The masks of a fresh desk: both active masks all ones.
     pub fn fresh() -> Self
@@ -38,9 +35,9 @@ impl Masks {
     {
         let others = !scan_mask(p);
         Self {
-            stable: self.stable,
             active: self.active & others,
             local: self.local & others,
+            ..self
         }
     }
 
@@ -52,8 +49,8 @@ impl Masks {
         let own = scan_mask(p);
         Self {
             stable: self.stable ^ own,
-            active: self.active,
             local: self.local | own,
+            ..self
         }
     }
 
@@ -64,9 +61,8 @@ impl Masks {
     {
         let own = scan_mask(p);
         Self {
-            stable: self.stable,
             active: self.active | own,
-            local: self.local,
+            ..self
         }
     }
 
@@ -85,17 +81,54 @@ impl Masks {
     }
 }
 
+// How a scan knows that it awaits a version: its bit of (flip XOR mask) is 0. In the table flip is the stable mask; on the shelf
+// it is 0, since there an entry waits for a scan where its own bit is 0.
+#[derive(Clone, Copy, Debug, PartialEq, Eq)]
+pub struct Awaiting {
+    pub flip: u64,
+    pub position: Position,
+}
+
+impl Awaiting {
+    pub fn in_table(stable: u64, p: Position) -> Self
+        ensures { (result.flip ≡ stable) × (result.position.0 ≡ p.0) }
+    {
+        Self {
+            flip: stable,
+            position: p,
+        }
+    }
+
+    pub fn on_shelf(p: Position) -> Self
+        ensures { (result.flip ≡ 0) × (result.position.0 ≡ p.0) }
+    {
+        Self {
+            flip: 0,
+            position: p,
+        }
+    }
+
+    // Whether it awaits the version with this mask.
+    #[tactic(auto, using(rules::proofs::Bits::not_on))]
+    pub fn awaits(self, mask: u64) -> bool
+        requires { self.position.0 < 64 }
+        ensures { result ≡ off (bit_xor self.flip mask) self.position.0 }
+    {
+        !has_bit(self.flip ^ mask, self.position)
+    }
+}
+
 // The bit of a position and no other.
 pub fn scan_mask(p: Position) -> u64
     requires { p.0 < 64 }
     ensures { result ≡ scan_mask p.0 }
 {
-    1u64 << p.bit()
+    1u64 << u32::from(p)
 }
 
 pub fn has_bit(x: u64, p: Position) -> bool
     requires { p.0 < 64 }
     ensures { result ≡ on x p.0 }
 {
-    (x >> p.bit()) % 2 == 1
+    (x >> u32::from(p)) % 2 == 1
 }

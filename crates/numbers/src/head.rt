@@ -6,19 +6,21 @@ ghost use Rattle.masks.specs.Held.{held};
 ghost use Rattle.numbers.specs.Head.{high_bits};
 
 use masks::Masks;
+use rules::Counts;
 
 // N in range, T and R the slot counts.
-pub fn counts_sound(n: u32, t: u32, r: u32, slots: usize, entries: usize) -> bool
-    ensures { result ≡ n_in_range n && (eqb t slots && eqb r entries) }
+pub fn counts_sound(counts: Counts, slots: usize, entries: usize) -> bool
+    ensures { result ≡ n_in_range counts.n && (eqb counts.t slots && eqb counts.r entries) }
 {
-    ((1 <= n) & (n <= 64)) & ((t as usize == slots) & (r as usize == entries))
+    (1..=64).contains(&counts.n) & ((counts.t as usize == slots) & (counts.r as usize == entries))
 }
 
 // The bits of x from n up.
+#[tactic(auto, using(crate::proofs::HighBits::from_past), unfolding(rules::specs::Masks::from))]
 fn bits_from(n: u32, x: u64) -> u64
     ensures { result ≡ from n x }
 {
-    if n < 64 { x >> n } else { 0 }
+    x.checked_shr(n).unwrap_or(0)
 }
 
 // Bits from n up: 0 in the stable mask and 1 in both active masks.

@@ -1,59 +1,74 @@
 // Each answer as one number: answer + 256 × value.
-#![tactic(auto)]
+#![tactic(auto, unfolding(rules::specs::Answers::packed, rules::specs::Answers::number, rules::specs::Answers::value, rules::specs::Answers::draw_of, rules::specs::Answers::says))]
 
 ghost use Rattle.std.specs.Prelude.{◌≡◌};
-ghost use Rattle.rules.specs.Answers.{packed, change_says, begin_says, next_says, tally_says, owed_says};
+ghost use Rattle.rules.specs.Answers.{Answer, packed, says, change_tells, begin_tells, next_tells, tally_tells, owed_tells};
 
-use rules::{BeginAnswer, ChangeAnswer, NextAnswer, OwedAnswer, TallyAnswer};
+use rules::{Draw, Owed, Refusal, Tally, Ticket};
 
-pub fn change(a: ChangeAnswer) -> u64
-    ensures { result ≡ packed (change_says a) }
-{
-    match a {
-        ChangeAnswer::Done => 0,
-        ChangeAnswer::Refused(k) => k as u64,
+// What a call gives that is not refused.
+pub trait Value {
+    ghost tells: { Self → Answer };
+
+    // The number that tells it.
+    fn number(self) -> u64
+        ensures { result ≡ packed (tells self) };
+}
+
+impl Value for () {
+    ghost tells = { change_tells };
+
+    fn number(self) -> u64 {
+        0
     }
 }
 
-pub fn begin(a: BeginAnswer) -> u64
-    ensures { result ≡ packed (begin_says a) }
-{
-    match a {
-        BeginAnswer::Begun(t) => 256 * (t.word() as u64),
-        BeginAnswer::Refused(k) => k as u64,
+impl Value for Ticket {
+    ghost tells = { begin_tells };
+
+    fn number(self) -> u64 {
+        256 * u64::from(u32::from(self))
     }
 }
 
-pub fn next(a: NextAnswer) -> u64
-    ensures { result ≡ packed (next_says a) }
-{
-    match a {
-        NextAnswer::InHand { looks, left: _ } => 256 * (looks as u64),
-        NextAnswer::Paused { looks } => 100 + 256 * (looks as u64),
-        NextAnswer::Finished {
-            looks,
-            left: _,
-            handed,
-        } => 101 + 256 * (looks as u64 + 2097152 * (handed as u64)),
-        NextAnswer::Refused(k) => k as u64,
+impl Value for Draw {
+    ghost tells = { next_tells };
+
+    fn number(self) -> u64 {
+        match self {
+            Draw::InHand { looks, left: _ } => 256 * u64::from(looks),
+            Draw::Paused { looks } => 100 + 256 * u64::from(looks),
+            Draw::Finished {
+                looks,
+                left: _,
+                handed,
+            } => 101 + 256 * (u64::from(looks) + 2097152 * u64::from(handed)),
+        }
     }
 }
 
-pub fn tally(a: TallyAnswer) -> u64
-    ensures { result ≡ packed (tally_says a) }
-{
-    match a {
-        TallyAnswer::Counted { records, entries } => 256
-            * (records as u64 + 32768 * (entries as u64)),
-        TallyAnswer::Refused(k) => k as u64,
+impl Value for Tally {
+    ghost tells = { tally_tells };
+
+    fn number(self) -> u64 {
+        256 * (u64::from(self.records) + 32768 * u64::from(self.entries))
     }
 }
 
-pub fn owed(a: OwedAnswer) -> u64
-    ensures { result ≡ packed (owed_says a) }
+impl Value for Owed {
+    ghost tells = { owed_tells };
+
+    fn number(self) -> u64 {
+        256 * u64::from(self.0)
+    }
+}
+
+// What a call answers, refused or not.
+pub fn number<V: Value>(answer: Result<V, Refusal>) -> u64
+    ensures { result ≡ packed (says V.tells answer) }
 {
-    match a {
-        OwedAnswer::Owing(n) => 256 * (n as u64),
-        OwedAnswer::Refused(k) => k as u64,
+    match answer {
+        Ok(value) => value.number(),
+        Err(refusal) => u64::from(u8::from(refusal)),
     }
 }

@@ -1,33 +1,25 @@
 // Bytes changed behind the store's back.
-ghost use Rattle.std.specs.Prelude.{◌<◌, ◌≤◌};
+ghost use Rattle.std.specs.Prelude.{◌<◌, ◌≤◌, length};
 
-use crate::dice::{byte, roll};
-use inarumpit::calls;
-use rules::TallyAnswer;
+use crate::dice::Dice;
+use crate::store::Store;
 
-// One of the `count` bytes of s from `from` on, where s has it, to any value.
-pub fn spoil(state: &mut u32, s: &mut [u8], from: usize, count: u32)
-    requires { (from ≤ 1088) × (0 < count) }
+// One byte, whichever, to any value.
+fn spoil_one(dice: &mut Dice, bytes: &mut [u8])
+    requires { (0 < length bytes.old) × (length bytes.old ≤ 1088) }
 {
-    let i = from + roll(state, count) as usize;
-    let b = byte(state);
-    if i < s.len() {
-        s[i] = b;
-    }
+    let i = dice.roll(bytes.len() as u32) as usize;
+    bytes[i] = dice.byte();
 }
 
-// A byte of the masks, of the first four cards, or any.
-pub fn spoil_desk(state: &mut u32, desk: &mut [u8]) {
-    match roll(state, 4) {
-        0 => spoil(state, desk, 0, 1088),
-        1 => spoil(state, desk, 16, 24),
-        _ => spoil(state, desk, 64, 64),
+// A byte of the masks, of the first four cards, or any of the desk; one of the table, and one of the shelf.
+pub fn spoil(dice: &mut Dice, store: &mut Store) {
+    let desk = &mut store.desk[..];
+    match dice.roll(4) {
+        0 => spoil_one(dice, desk),
+        1 => spoil_one(dice, &mut desk[16..40]),
+        _ => spoil_one(dice, &mut desk[64..128]),
     }
-}
-
-// The desk put back where it is no longer sound.
-pub fn mend(desk: &mut [u8; 1088], before: [u8; 1088], table: &[u8], shelf: &[u8]) {
-    if let TallyAnswer::Refused(_) = calls::tally(desk, table, shelf) {
-        *desk = before;
-    }
+    spoil_one(dice, &mut store.table);
+    spoil_one(dice, &mut store.shelf);
 }

@@ -1,6 +1,7 @@
 // Peek against next with unbounded budget on copies, over seeded sequences of calls on small stores.
 #![tactic(auto)]
 
+use crate::seen::Seen;
 use std::io;
 
 mod compare;
@@ -8,12 +9,15 @@ mod dice;
 mod hostile;
 mod seen;
 mod sequence;
+mod store;
 mod turn;
 
+const SEQUENCES: u32 = 400;
+
 fn main(rt: HostRuntime) -> io::Result<()> {
-    let mut so_far = seen::Seen::nothing();
-    for number in 0..400 {
-        so_far = sequence::run(&rt, number, so_far)?;
+    let mut seen = Seen::default();
+    for number in 0..SEQUENCES {
+        sequence::run(&rt, number, &mut seen)?;
     }
-    so_far.tell(&rt, 400)
+    println!(rt; "{SEQUENCES} sequences, {seen}")
 }

@@ -1,92 +1,54 @@
 // A sequence: a small store opened, and fifty calls on it.
-use crate::dice::roll;
+use crate::dice::Dice;
 use crate::seen::{Compared, Seen};
-use crate::{compare, hostile, seen, turn};
-use inarumpit::calls;
+use crate::store::Store;
+use crate::{compare, hostile, turn};
 use std::io;
 
 // Peek compared, and then next.
-fn peek_then_next(
-    state: &mut u32,
-    desk: &mut [u8; 1088],
-    table: &mut [u8],
-    shelf: &mut [u8],
-) -> Compared {
-    let ticket = turn::ticket(state, desk);
-    let compared = compare::peek_and_next(desk, table, shelf, ticket);
-    turn::next(state, desk, table, shelf, ticket);
+fn peek_then_next(dice: &mut Dice, store: &mut Store) -> Compared {
+    let ticket = turn::ticket(dice, store);
+    let compared = compare::peek_and_next(store, ticket);
+    turn::next(dice, store, ticket);
     compared
 }
 
-// The same, with bytes changed behind the store's back.
-fn hostile_peek_then_next(
-    state: &mut u32,
-    desk: &mut [u8; 1088],
-    table: &mut [u8],
-    shelf: &mut [u8],
-) -> Compared {
-    let before = *desk;
-    hostile::spoil_desk(state, desk);
-    hostile::spoil(state, table, 0, 512);
-    hostile::spoil(state, shelf, 0, 1024);
-    let compared = peek_then_next(state, desk, table, shelf);
-    hostile::mend(desk, before, table, shelf);
+// The same, with bytes changed behind the store's back; the desk is put back where it is no longer sound.
+fn hostile_peek_then_next(dice: &mut Dice, store: &mut Store) -> Compared {
+    let before = store.desk;
+    hostile::spoil(dice, store);
+    let compared = peek_then_next(dice, store);
+    if !store.is_sound() {
+        store.desk = before;
+    }
     compared
 }
 
-// One call, before a next its peek.
-fn one(
-    state: &mut u32,
-    desk: &mut [u8; 1088],
-    table: &mut [u8],
-    shelf: &mut [u8],
-    seen: Seen,
-) -> Seen {
-    match roll(state, 16) {
-        0..=4 => seen.compared(peek_then_next(state, desk, table, shelf)),
-        5 => seen.compared(hostile_peek_then_next(state, desk, table, shelf)),
+// One call, before a next its peek compared.
+fn one(dice: &mut Dice, store: &mut Store) -> Option<Compared> {
+    match dice.roll(16) {
+        0..=4 => Some(peek_then_next(dice, store)),
+        5 => Some(hostile_peek_then_next(dice, store)),
         _ => {
-            turn::other(state, desk, table, shelf);
-            seen
+            turn::other(dice, store);
+            None
         }
     }
 }
 
 // The store opened and fifty calls, each counted; one where peek differs is told by its number.
-fn opened(
-    rt: &impl Print,
-    number: u32,
-    state: &mut u32,
-    table: &mut [u8],
-    shelf: &mut [u8],
-    before: Seen,
-) -> io::Result<Seen> {
-    let mut desk = [0u8; 1088];
-    calls::open(&mut desk, table, shelf, 1 + roll(state, 4));
-    let mut so_far = before.called();
+pub fn run(rt: &impl Print, number: u32, seen: &mut Seen) -> io::Result<()> {
+    let mut dice = Dice::seeded(number);
+    let mut store = Store::opened(&mut dice);
+    seen.called();
     for call in 0..50 {
-        let after = one(state, &mut desk, table, shelf, so_far.called());
-        if after.differences != so_far.differences {
-            seen::tell_difference(rt, number, call)?;
+        seen.called();
+        if let Some(compared) = one(&mut dice, &mut store) {
+            seen.compared(compared);
+            if compared == Compared::Different {
+                println!(rt; "sequence {number}, call {call}: peek differs")?;
+            }
         }
-        so_far = after;
     }
-    Ok(so_far)
-}
-
-// Sequence `number`: T 1 to 8, R 1 to 16, N 1 to 4.
-pub fn run(rt: &impl Print, number: u32, so_far: Seen) -> io::Result<Seen> {
-    let mut state = number;
-    let mut table = [0u8; 512];
-    let mut shelf = [0u8; 1024];
-    let t = table.len().min((64 + roll(&mut state, 8) * 64) as usize);
-    let r = shelf.len().min((64 + roll(&mut state, 16) * 64) as usize);
-    opened(
-        rt,
-        number,
-        &mut state,
-        &mut table[..t],
-        &mut shelf[..r],
-        so_far,
-    )
+    Ok(())
 }

@@ -1,54 +1,46 @@
 // One call of a sequence, as the dice have it.
-use crate::dice::{byte, roll};
-use inarumpit::calls;
-use rules::{RecordNumber, Ticket};
+use crate::dice::Dice;
+use crate::store::Store;
+use rules::{Body, Position, RecordNumber, Ticket};
 
 // A body of one byte's value, with kind 1 to 4.
-fn body(state: &mut u32) -> [u8; 52] {
-    let mut b = [byte(state); 52];
-    b[4] = 1 + byte(state) % 4;
-    b
+fn body(dice: &mut Dice) -> Body {
+    let mut body = [dice.byte(); 52];
+    body[4] = 1 + dice.byte() % 4;
+    body
 }
 
 // The ticket of one of the first four cards, the lower the likelier, or any below 8.
-pub fn ticket(state: &mut u32, desk: &[u8; 1088]) -> Ticket {
-    let cards = 1 + roll(state, 5);
-    let p = roll(state, cards) as usize;
+pub fn ticket(dice: &mut Dice, store: &Store) -> Ticket {
+    let cards = 1 + dice.roll(5);
+    let p = dice.roll(cards);
     if p < 4 {
-        return Ticket(layout::get32(desk, 64 + p * 16));
+        desk::ticket_at(&store.desk, Position(p))
+    } else {
+        Ticket(dice.roll(8))
     }
-    Ticket(roll(state, 8))
 }
 
 // Every third is unbounded, the others at most 5.
-fn budget(state: &mut u32) -> u32 {
-    if roll(state, 3) == 0 {
-        4294967295
+fn budget(dice: &mut Dice) -> u32 {
+    if dice.roll(3) == 0 {
+        u32::MAX
     } else {
-        roll(state, 6)
+        dice.roll(6)
     }
 }
 
-pub fn next(state: &mut u32, desk: &mut [u8], table: &mut [u8], shelf: &mut [u8], t: Ticket) {
-    let mut out = [0u8; 56];
-    calls::next(desk, table, shelf, t, budget(state), &mut out);
+pub fn next(dice: &mut Dice, store: &mut Store, ticket: Ticket) {
+    let _ = store.next(ticket, budget(dice), &mut [0; 56]);
 }
 
 // Insert, modify, delete or begin.
-pub fn other(state: &mut u32, desk: &mut [u8], table: &mut [u8], shelf: &mut [u8]) {
-    let k = RecordNumber(roll(state, 10));
-    match roll(state, 10) {
-        0..=4 => {
-            calls::insert(desk, table, shelf, k, &body(state));
-        }
-        5 | 6 => {
-            calls::modify(desk, table, shelf, k, &body(state));
-        }
-        7 => {
-            calls::delete(desk, table, shelf, k);
-        }
-        _ => {
-            calls::begin(desk, table, shelf);
-        }
+pub fn other(dice: &mut Dice, store: &mut Store) {
+    let number = RecordNumber(dice.roll(10));
+    match dice.roll(10) {
+        0..=4 => store.insert(number, &body(dice)),
+        5 | 6 => store.modify(number, &body(dice)),
+        7 => store.delete(number),
+        _ => store.begin(),
     }
 }

@@ -1,9 +1,10 @@
+pub mod Bits
 pub mod Bytes
 pub mod Each
-pub mod RoundTrip
-pub mod Bits
-pub mod TableOne
 pub mod First
-pub mod Walk
+pub mod Refused
+pub mod RoundTrip
 pub mod Soundness
+pub mod TableOne
+pub mod Walk
 pub mod Worked

@@ -1,10 +1,10 @@
 -- The answers, the numbers that come back for them, and what a C host sees.
-use Rattle.std.specs.Prelude.{List, ℕ, ◌+◌, ◌*◌}
-use Rattle.rules.specs.declared.ChangeAnswer.{ChangeAnswer}
-use Rattle.rules.specs.declared.BeginAnswer.{BeginAnswer}
-use Rattle.rules.specs.declared.NextAnswer.{NextAnswer}
-use Rattle.rules.specs.declared.TallyAnswer.{TallyAnswer}
-use Rattle.rules.specs.declared.OwedAnswer.{OwedAnswer}
+use Rattle.std.specs.Prelude.{List, ℕ, ◌+◌, ◌*◌, Result, Ok, Err, ⊤}
+use Rattle.rules.specs.declared.Draw.{Draw as DrawOfCode}
+use Rattle.rules.specs.declared.Owed.{Owed}
+use Rattle.rules.specs.declared.Refusal.{Refusal as RefusalOfCode}
+use Rattle.rules.specs.declared.Tally.{Tally}
+use Rattle.rules.specs.declared.Ticket.{Ticket}
 
 -- what next tells: a record in hand, the budget spent, or the end; each with the looks made and the budget left
 pub data Draw : Type 0 where
@@ -71,26 +71,59 @@ value (refused j) = refusal_value j
 unfoldable pub packed : Answer → ℕ
 packed a = number a + 256 * value a
 
--- ---- each enum of the code, case by case
+-- ---- the answers of the code, case by case
 
-unfoldable pub change_says : ChangeAnswer → Answer
-change_says ChangeAnswer.Done = done
-change_says (ChangeAnswer.Refused j) = refused j
+-- its refusals by the numbers of document 01
+unfoldable pub number_of : RefusalOfCode → ℕ
+number_of RefusalOfCode.BadLength = 1
+number_of RefusalOfCode.BadDesk = 2
+number_of RefusalOfCode.BadNumber = 3
+number_of RefusalOfCode.BadKind = 4
+number_of RefusalOfCode.AlreadyThere = 5
+number_of RefusalOfCode.NotThere = 6
+number_of RefusalOfCode.TableFull = 7
+number_of RefusalOfCode.ShelfFull = 8
+number_of RefusalOfCode.NoPosition = 9
+number_of RefusalOfCode.NoScan = 10
+number_of RefusalOfCode.NoTicket = 11
 
-unfoldable pub begin_says : BeginAnswer → Answer
-begin_says (BeginAnswer.Begun ticket) = begun ticket.0
-begin_says (BeginAnswer.Refused j) = refused j
+unfoldable pub draw_of : DrawOfCode → Draw
+draw_of (DrawOfCode.InHand l b) = Draw.in_hand l b
+draw_of (DrawOfCode.Paused l) = Draw.paused l
+draw_of (DrawOfCode.Finished l b h) = Draw.finished l b h
 
-unfoldable pub next_says : NextAnswer → Answer
-next_says (NextAnswer.InHand l b) = drew (Draw.in_hand l b)
-next_says (NextAnswer.Paused l) = drew (Draw.paused l)
-next_says (NextAnswer.Finished l b h) = drew (Draw.finished l b h)
-next_says (NextAnswer.Refused j) = refused j
+-- what a call that is not refused tells, by its value
+abbrev pub change_tells : ⊤ → Answer
+change_tells u = done
 
-unfoldable pub tally_says : TallyAnswer → Answer
-tally_says (TallyAnswer.Counted r e) = shown (Shown.counted r e)
-tally_says (TallyAnswer.Refused j) = refused j
+abbrev pub begin_tells : Ticket → Answer
+begin_tells ticket = begun ticket.0
 
-unfoldable pub owed_says : OwedAnswer → Answer
-owed_says (OwedAnswer.Owing c) = shown (Shown.owing c)
-owed_says (OwedAnswer.Refused j) = refused j
+abbrev pub next_tells : DrawOfCode → Answer
+next_tells d = drew (draw_of d)
+
+abbrev pub tally_tells : Tally → Answer
+tally_tells c = shown (Shown.counted c.records c.entries)
+
+abbrev pub owed_tells : Owed → Answer
+owed_tells c = shown (Shown.owing c.0)
+
+-- and what each call answers, refused or not
+unfoldable pub says : {A : Type 0} → (A → Answer) → Result A RefusalOfCode → Answer
+says tells (Ok x) = tells x
+says tells (Err r) = refused (number_of r)
+
+abbrev pub change_says : Result ⊤ RefusalOfCode → Answer
+change_says = says change_tells
+
+abbrev pub begin_says : Result Ticket RefusalOfCode → Answer
+begin_says = says begin_tells
+
+abbrev pub next_says : Result DrawOfCode RefusalOfCode → Answer
+next_says = says next_tells
+
+abbrev pub tally_says : Result Tally RefusalOfCode → Answer
+tally_says = says tally_tells
+
+abbrev pub owed_says : Result Owed RefusalOfCode → Answer
+owed_says = says owed_tells

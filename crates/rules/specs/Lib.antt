@@ -1,11 +1,12 @@
+pub mod Answers
 pub mod Bytes
+pub mod Calls
+pub mod Kinds
 pub mod Masks
 pub mod Memory
-pub mod Sound
-pub mod Answers
-pub mod Calls
 pub mod Next
-pub mod Refusals
 pub mod Passed
 pub mod Promises
+pub mod Refusals
+pub mod Sound
 pub mod Worked

@@ -66,11 +66,11 @@ module _ (h : ℕ → Bool) (from b end : ℕ) {w : Walked} (ew : w ≡ walked_o
   least = first-least h from (min (from + b) end - from)
 
   module _ (e : w.seen ≡ Seen.Record) where
-    pub record-some : 0 < w.looks
-    record-some = omega (arith, (record_says e).1, least)
+    pub record_some : 0 < w.looks
+    record_some = omega (arith, (record_says e).1, least)
 
-    pub record-fits : from + w.looks ≤ end
-    record-fits = omega (arith, (record_says e).0, (record_says e).1, least)
+    pub record_fits : from + w.looks ≤ end
+    record_fits = omega (arith, (record_says e).0, (record_says e).1, least)
 
     pub record_at_lem : from + w.looks - 1 ≡ stop_of h from b end
     record_at_lem = omega (arith, (record_says e).1, least)

@@ -2,29 +2,27 @@
 // document's figures.
 #![tactic(auto)]
 
+use crate::step::Step;
+use crate::store::Store;
 use std::io;
 use std::io::Read;
 
+mod answer;
+mod call;
+mod line;
 mod show;
 mod step;
-mod text;
-mod turn;
+mod store;
 
 // How many bytes of a script are read.
 const SCRIPT_BYTES: u64 = 4096;
 
 // One line after another, on buffers that are all there from the first.
 fn play(rt: &impl Print, script: &[u8]) -> io::Result<()> {
-    let mut desk = [0u8; 1088];
-    let mut table = [0u8; 256];
-    let mut shelf = [0u8; 512];
-    let mut lent = step::lengths(b"");
-    let mut at: usize = 0;
-    while at < script.len() {
-        let end = text::line_end(script, at);
-        let line = &script[at..end];
-        lent = step::step(rt, line, &mut desk, &mut table, &mut shelf, lent)?;
-        at = end + 1;
+    let mut store = Store::new();
+    for line in script.split_inclusive(|b| *b == b'\n') {
+        let line = line.strip_suffix(b"\n").unwrap_or(line);
+        store.run(rt, Step::parse(line))?;
     }
     Ok(())
 }

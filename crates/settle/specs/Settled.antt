@@ -10,20 +10,18 @@ use Rattle.joins.specs.Walks.{moved_to, took, here}
 
 -- card and masks are those of the desk for the scan at p, which can go on to place q
 abbrev pub CanGoOn : List ℕ → ℕ → Card → Masks → ℕ → Type 0
-CanGoOn d p c m q = (length d ≡ 1088) × (p < 64) × (c ≡ card_at d p) × (m ≡ masks_of d) × (q < 4294967296)
+CanGoOn d p c m q = (p < 64) × (c ≡ card_at d p) × (m ≡ masks_of d) × (q < 4294967296)
 
 -- and its last look, in table or shelf, found what can be handed out
-abbrev pub CanHandOut : List ℕ → List ℕ → List ℕ → List ℕ → ℕ → Card → Masks → ℕ → Type 0
-CanHandOut d t s o p c m looks =
-    (length d ≡ 1088)
-    × (p < 64)
+abbrev pub CanHandOut : List ℕ → List ℕ → List ℕ → ℕ → Card → Masks → ℕ → Type 0
+CanHandOut d t s p c m looks =
+    (p < 64)
     × (c ≡ card_at d p)
     × (m ≡ masks_of d)
     × (c.place + looks ≤ length t / 64 + length s / 64)
     × (length t / 64 + length s / 64 < 4294967296)
     × (0 < looks)
     × (c.handed < 4294967295)
-    × (length o ≡ 56)
 
 -- the desk of a scan that has moved to place q with h handed, over any table and shelf
 abbrev pub GoesOn : Buffer → Buffer → ℕ → ℕ → ℕ → Type 0

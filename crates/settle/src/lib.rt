@@ -12,7 +12,15 @@ ghost use Rattle.masks.specs.Held.{held};
 ghost use Rattle.settle.specs.Settled.{CanGoOn, CanHandOut, GoesOn, MovesOn, Finishes, Takes, HandsOut};
 
 use masks::Masks;
-use rules::{Card, Position, SlotNumber, Ticket};
+use rules::{Card, Desk, Position, SlotNumber, Ticket, Version};
+
+// A scan as the desk has it: its position, its card, and the masks.
+#[derive(Clone, Copy, Debug, PartialEq, Eq)]
+pub struct Scan {
+    pub position: Position,
+    pub card: Card,
+    pub masks: Masks,
+}
 
 // The masks after the scan at p has moved from one place to another: past the last slot its table walk has ended.
 fn turned_masks(m: Masks, p: Position, from: usize, to: usize, slots: usize) -> Masks
@@ -25,8 +33,8 @@ fn turned_masks(m: Masks, p: Position, from: usize, to: usize, slots: usize) -> 
     m
 }
 
-fn put_scan(desk: &mut [u8], p: Position, m: Masks, c: Card)
-    requires { (length desk.old ≡ 1088) × (p.0 < 64) }
+fn put_scan(desk: &mut Desk, p: Position, m: Masks, c: Card)
+    requires { p.0 < 64 }
     ensures { desk.new ≡ put (put desk.old 16 (masks_bytes (held m))) (64 + p.0 * 16) (card_bytes c) }
 {
     desk::write::put_masks(desk, m);
@@ -34,6 +42,7 @@ fn put_scan(desk: &mut [u8], p: Position, m: Masks, c: Card)
 }
 
 // The record in slot i has been handed out to the scan at p: its status bit is flipped.
+#[tactic(auto, using(crate::proofs::HandOut::flipped_put))]
 fn mark_in_table(table: &mut [u8], i: SlotNumber, p: Position)
     requires { (i.0 < length table.old / 64) × (p.0 < 64) }
     ensures { slots_of table.new ≡ set (slots_of table.old) i.0 (flipped (slot_in (slots_of table.old) i.0) p.0) }
@@ -43,6 +52,7 @@ fn mark_in_table(table: &mut [u8], i: SlotNumber, p: Position)
 }
 
 // The version in entry k has been handed out to the scan at p: its bit is set, and with all bits set the entry is freed.
+#[tactic(auto, using(crate::proofs::HandOut::taken_freed, crate::proofs::HandOut::taken_kept))]
 fn mark_on_shelf(shelf: &mut [u8], k: SlotNumber, p: Position)
     requires { (k.0 < length shelf.old / 64) × (p.0 < 64) }
     ensures { slots_of shelf.new ≡ set (slots_of shelf.old) k.0 (taken (slot_in (slots_of shelf.old) k.0) p.0) }
@@ -56,49 +66,52 @@ fn mark_on_shelf(shelf: &mut [u8], k: SlotNumber, p: Position)
     slots::write::put_mask(shelf, k, mask);
 }
 
-// The scan at p goes on to a place, with so many more handed out to it: its masks and its card.
-fn go_on(desk: &mut [u8], table: &[u8], p: Position, c: Card, m: Masks, place: u32, more: u32)
-    requires { CanGoOn desk.old p.0 c (held m) place × (c.handed + more < 4294967296) }
-    ensures { GoesOn (rewritten desk.old desk.new) (kept table.now) p.0 place (c.handed + more) }
+// The scan goes on to a place, with so many more handed out to it: its masks and its card.
+#[tactic(auto, using(crate::proofs::Moves::moved_spelt))]
+fn go_on(desk: &mut Desk, table: &[u8], scan: Scan, place: u32, more: u32)
+    requires { CanGoOn desk.old scan.position.0 scan.card (held scan.masks) place × (scan.card.handed + more < 4294967296) }
+    ensures { GoesOn (rewritten desk.old desk.new) (kept table.now) scan.position.0 place (scan.card.handed + more) }
 {
-    let ticket = c.ticket;
+    let p = scan.position;
+    let card = scan.card;
     let end = slots::slot_count(table);
-    let moved = turned_masks(m, p, c.place as usize, place as usize, end);
+    let moved = turned_masks(scan.masks, p, card.place as usize, place as usize, end);
     put_scan(
         desk,
         p,
         moved,
         Card {
-            ticket: ticket,
-            place: place,
-            handed: c.handed + more,
-            rest: c.rest,
+            place,
+            handed: card.handed + more,
+            ..card
         },
     );
 }
 
-// The scan at p has made its looks and found nothing: it moves on.
-pub fn move_on(desk: &mut [u8], table: &[u8], p: Position, c: Card, m: Masks, looks: u32)
-    requires { CanGoOn desk.old p.0 c (held m) (c.place + looks) }
-    ensures { MovesOn (rewritten desk.old desk.new) (kept table.now) p.0 (c.place + looks) c.handed }
+// The scan has made its looks and found nothing: it moves on.
+pub fn move_on(desk: &mut Desk, table: &[u8], scan: Scan, looks: u32)
+    requires { CanGoOn desk.old scan.position.0 scan.card (held scan.masks) (scan.card.place + looks) }
+    ensures { MovesOn (rewritten desk.old desk.new) (kept table.now) scan.position.0 (scan.card.place + looks) scan.card.handed }
 {
-    go_on(desk, table, p, c, m, c.place + looks, 0);
+    go_on(desk, table, scan, scan.card.place + looks, 0);
 }
 
-// The scan at p has made its last look and found nothing: its position is free.
-pub fn finish(desk: &mut [u8], table: &[u8], p: Position, c: Card, m: Masks, looks: u32)
-    requires { CanGoOn desk.old p.0 c (held m) (c.place + looks) }
-    ensures { Finishes (rewritten desk.old desk.new) (kept table.now) p.0 (c.place + looks) c.handed }
+// The scan has made its last look and found nothing: its position is free.
+#[tactic(auto, using(crate::proofs::Moves::finished_spelt))]
+pub fn finish(desk: &mut Desk, table: &[u8], scan: Scan, looks: u32)
+    requires { CanGoOn desk.old scan.position.0 scan.card (held scan.masks) (scan.card.place + looks) }
+    ensures { Finishes (rewritten desk.old desk.new) (kept table.now) scan.position.0 (scan.card.place + looks) scan.card.handed }
 {
-    let place = c.place + looks;
+    let p = scan.position;
+    let from = scan.card.place as usize;
     let end = slots::slot_count(table);
-    let moved = turned_masks(m, p, c.place as usize, place as usize, end);
+    let moved = turned_masks(scan.masks, p, from, from + looks as usize, end);
     put_scan(
         desk,
         p,
         moved.ended(p),
         Card {
-            ticket: Ticket(0),
+            ticket: Ticket::NONE,
             place: 0,
             handed: 0,
             rest: 0,
@@ -107,8 +120,9 @@ pub fn finish(desk: &mut [u8], table: &[u8], p: Position, c: Card, m: Masks, loo
 }
 
 // The version at a place, table first, then shelf, is the scan's at p: copied out, and marked in its slot or entry.
-fn take(table: &mut [u8], shelf: &mut [u8], at: usize, p: Position, out: &mut [u8])
-    requires { (at < length table.old / 64 + length shelf.old / 64) × (p.0 < 64) × (length out.old ≡ 56) }
+#[tactic(auto, using(crate::proofs::Moves::takes))]
+fn take(table: &mut [u8], shelf: &mut [u8], at: usize, p: Position, out: &mut Version)
+    requires { (at < length table.old / 64 + length shelf.old / 64) × (p.0 < 64) }
     ensures { Takes (rewritten table.old table.new) (rewritten shelf.old shelf.new) (rewritten out.old out.new) p.0 at }
 {
     let end = slots::slot_count(table);
@@ -121,22 +135,20 @@ fn take(table: &mut [u8], shelf: &mut [u8], at: usize, p: Position, out: &mut [u
     mark_on_shelf(shelf, SlotNumber(at - end), p);
 }
 
-// The last look of the scan at p found a version: it is handed out.
+// The last look of the scan found a version: it is handed out.
 pub fn hand_out(
-    desk: &mut [u8],
+    desk: &mut Desk,
     table: &mut [u8],
     shelf: &mut [u8],
-    p: Position,
-    c: Card,
-    m: Masks,
+    scan: Scan,
     looks: u32,
-    out: &mut [u8],
+    out: &mut Version,
 )
-    requires { CanHandOut desk.old table.old shelf.old out.old p.0 c (held m) looks }
+    requires { CanHandOut desk.old table.old shelf.old scan.position.0 scan.card (held scan.masks) looks }
     ensures { HandsOut (rewritten desk.old desk.new) (rewritten table.old table.new)
-        (rewritten shelf.old shelf.new) (rewritten out.old out.new) p.0 (c.place + looks - 1) }
+        (rewritten shelf.old shelf.new) (rewritten out.old out.new) scan.position.0 (scan.card.place + looks - 1) }
 {
-    let place = c.place + looks;
-    go_on(desk, table, p, c, m, place, 1);
-    take(table, shelf, place as usize - 1, p, out);
+    let place = scan.card.place + looks;
+    go_on(desk, table, scan, place, 1);
+    take(table, shelf, place as usize - 1, scan.position, out);
 }

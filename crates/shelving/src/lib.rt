@@ -3,48 +3,30 @@
 
 ghost use Rattle.std.specs.Prelude.{◌≡◌, ◌/◌, ◌<◌, length};
 ghost use Rattle.masks.specs.Held.{held};
-ghost use Rattle.shelving.specs.Keeps.{goes_on, keeps};
+ghost use Rattle.shelving.specs.Keeps.{keeps};
 
 use masks::Masks;
-use rules::SlotNumber;
+use rules::{Refusal, SlotNumber};
 
-// What became of the present version of a slot before it is changed.
-#[derive(Clone, Copy)]
+// What became of the present version of a slot before it is changed: no running scan awaits it, or it stands on the shelf.
+#[derive(Clone, Copy, Debug, PartialEq, Eq)]
 pub enum Kept {
-    // No running scan awaits it.
     Unawaited,
-    // It stands on the shelf.
     Shelved,
-    // It is awaited and no entry is empty.
-    NoRoom,
 }
 
-impl Kept {
-    // The change can be made.
-    pub fn goes_on(self) -> bool
-        ensures { result ≡ goes_on self }
-    {
-        match self {
-            Kept::Unawaited => true,
-            Kept::Shelved => true,
-            Kept::NoRoom => false,
-        }
-    }
-}
-
-// The present version of slot i is kept for the scans that await it.
-pub fn keep(masks: Masks, table: &[u8], shelf: &mut [u8], i: SlotNumber) -> Kept
+// The present version of slot i is kept for the scans that await it; refused where it is awaited and no entry is empty.
+pub fn keep(masks: Masks, table: &[u8], shelf: &mut [u8], i: SlotNumber) -> Result<Kept, Refusal>
     requires { i.0 < length table.now / 64 }
     ensures { (result, shelf.new) ≡ keeps (held masks) table.now shelf.old i.0 }
 {
     let m = masks.m_of(slots::mask_at(table, i));
     if m == Masks::ALL_ONES {
-        return Kept::Unawaited;
+        return Ok(Kept::Unawaited);
     }
-    let e = search::empty(shelf);
-    if e.below(slots::slot_count(shelf)) {
-        slots::write::shelve(table, i, shelf, e, m);
-        return Kept::Shelved;
-    }
-    Kept::NoRoom
+    let Some(e) = search::empty(shelf) else {
+        return Err(Refusal::ShelfFull);
+    };
+    slots::write::shelve(table, i, shelf, e, m);
+    Ok(Kept::Shelved)
 }

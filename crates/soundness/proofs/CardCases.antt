@@ -1,63 +1,54 @@
 -- The ways that the code tests the card of a position, and those of eight.
 use mathlib.Core.Path.{◌≡◌, refl, sym, ap, ◌∙◌}
 use mathlib.Core.Bool.{Bool, true, false, not, ◌&&◌, and-true}
-use mathlib.Core.List.{List}
 use Prim.Native.Nat.{ℕ, ◌+◌, ◌*◌, ◌/◌, ◌%◌, ◌^◌, ◌≤◌, ◌<◌}
-use native.Mathlib.Nat.{add-zero, zero-add}
 use native.Mathlib.Omega.{arith}
-use lib.Dec.{eqb}
 use borrow.Author.Tests.{eqb-true, eqb-false}
-use Rattle.rules.specs.declared.Card.{Card}
 use Rattle.rules.specs.Masks.{bit, on}
 use Rattle.rules.specs.Memory.{card_at}
 use Rattle.rules.proofs.Bits.{bit_low, not_on}
-use Rattle.masks.specs.declared.Masks.{Masks}
 use Rattle.masks.specs.Held.{held}
-use Rattle.numbers.specs.declared.card.Limits.{Limits}
+use Rattle.numbers.specs.Busy.{busy_holds}
+use Rattle.soundness.specs.declared.cards.Cards.{Cards}
 use Rattle.soundness.specs.Every.{every}
 use Rattle.soundness.specs.Words.{zero_words}
-use Rattle.numbers.specs.Busy.{busy_holds}
-use Rattle.soundness.specs.Cards.{holds_by, IdleLocal}
-use Rattle.soundness.proofs.Every.{every_more, every-same, every_shift}
+use Rattle.soundness.specs.Holds.{holds}
+use Rattle.soundness.proofs.Every.{every_more}
 use Rattle.soundness.proofs.MaskBits.{byte_bit, byte_on, byte_off}
 use Rattle.soundness.proofs.OneCard.{busy_is}
 use Rattle.soundness.proofs.AllCards.{idle-run}
 
-module _ (d : List ℕ) (m : Masks) (l : Limits) (i : ℕ) where
-  pub busy_here : {b y : Bool} {c : Card} → bit m.active i ≡ 0 → c ≡ card_at d i → b ≡ on m.local i → y ≡ busy_holds c (not b) l.last.0 l.slots l.entries → y ≡ holds_by d m l i
-  busy_here o c b y = y ∙ rw (c, b, not_on m.local i) (sym (busy_is d (held m) l.slots l.entries l.last.0 i o))
+module _ (c : Cards) where
+  -- the card of position i by the test of a busy card
+  abbrev busy : ℕ → Bool → Bool
+  busy i low = busy_holds (card_at c.desk.now i) low c.limits.last.0 c.limits.slots c.limits.entries
 
-  pub busy_case : {o b y : Bool} {c : Card} → o ≡ on m.active i → o ≡ false → c ≡ card_at d i → b ≡ on m.local i
-      → y ≡ busy_holds c (not b) l.last.0 l.slots l.entries → y ≡ holds_by d m l i
-  busy_case e f c b y =
-      let n : bit m.active i ≡ 1 → ⊥ = eqb-false (bit m.active i) 1 (sym e ∙ f) in
-      busy_here (omega (arith, bit_low m.active i)) c b y
+  busy_here : (i : ℕ) → bit c.masks.active i ≡ 0 → holds c i ≡ busy i (not (on c.masks.local i))
+  unfolding holds
+  busy_here i o = busy_is c.desk.now (held c.masks) c.limits.slots c.limits.entries c.limits.last.0 i o ∙ ap (busy i) (sym (not_on c.masks.local i))
 
-  module _ (s : m.local < 2 ^ 64) (x : IdleLocal m) where
-    pub idle_case : {o y : Bool} → i < 64 → o ≡ on m.active i → o ≡ true → y ≡ zero_words d (8 + i * 2) (8 + i * 2 + 2) → y ≡ holds_by d m l i
-    unfolding every
-    idle_case h e f y =
-        y
-        ∙ idle-run d (held m) l.slots l.entries l.last.0 s x i 1 (omega arith) (λ k a b. let z : k ≡ i = omega arith in rw z (eqb-true (bit m.active i) 1 (sym e ∙ f)))
-        ∙ and-true (holds_by d m l i)
+  pub busy_case : (i : ℕ) → on c.masks.active i ≡ false → holds c i ≡ busy i (not (on c.masks.local i))
+  busy_case i f =
+      let n : bit c.masks.active i ≡ 1 → ⊥ = eqb-false (bit c.masks.active i) 1 f in
+      busy_here i (omega (arith, bit_low c.masks.active i))
 
-    -- eight idle positions from i on
-    pub eight_case : {y : Bool} → i + 8 ≤ 64 → m.active / 2 ^ i % 256 ≡ 255 → y ≡ zero_words d (8 + i * 2) (8 + i * 2 + 16) → y ≡ every (holds_by d m l) i 8
-    eight_case h o y = y ∙ idle-run d (held m) l.slots l.entries l.last.0 s x i 8 h (λ k a b. byte_on m.active i k a b o)
+  -- a loop over eight busy positions from p on has come to the i-th
+  pub busy_turn : (p i : ℕ) → i < 8 → c.masks.active / 2 ^ p % 256 ≡ 0
+      → every (holds c) p (i + 1) ≡ every (holds c) p i && busy (p + i) (not (on (c.masks.local / 2 ^ p % 256) i))
+  busy_turn p i h o =
+      every_more (holds c) p i
+      ∙ rw (busy_here (p + i) (byte_off c.masks.active p (p + i) (omega arith) (omega arith) o), byte_bit c.masks.local p i h) refl
 
--- ---- eight busy positions from p on, by a byte of the local active mask
+  -- idle positions side by side: the words of their cards
+  idle_words : (k n : ℕ) → k + n ≤ 64 → ((i : ℕ) → k ≤ i → i < k + n → bit c.masks.active i ≡ 1) → every (holds c) k n ≡ zero_words c.desk.now (8 + k * 2) (8 + k * 2 + n * 2)
+  unfolding holds
+  idle_words k n h o = sym (idle-run c.desk.now (held c.masks) c.limits.slots c.limits.entries c.limits.last.0 c.idle_local k n h o)
 
-module _ (d : List ℕ) (local : ℕ) (l : Limits) (p : ℕ) where
-  -- the j-th of them
-  abbrev pub busy_at : ℕ → Bool
-  busy_at j = busy_holds (card_at d (p + j)) (not (on local j)) l.last.0 l.slots l.entries
+  pub idle_case : (i : ℕ) → i < 64 → on c.masks.active i ≡ true → holds c i ≡ zero_words c.desk.now (8 + i * 2) (8 + i * 2 + 2)
+  unfolding every
+  idle_case i h o =
+      sym (and-true (holds c i)) ∙ idle_words i 1 (omega arith) (λ k a b. let z : k ≡ i = omega arith in rw z (eqb-true (bit c.masks.active i) 1 o))
 
-  -- a loop that has come to the i-th
-  pub busy_turn : (i : ℕ) {x b y : Bool} {c : Card} → x ≡ every busy_at 0 i → c ≡ card_at d (p + i) → b ≡ on local i → y ≡ busy_holds c (not b) l.last.0 l.slots l.entries → x && y ≡ every busy_at 0 (i + 1)
-  busy_turn i e c b y = sym (every_more busy_at 0 i ∙ rw (zero-add i, ← e, y, c, b) refl)
-
-pub eight_busy_case : (d : List ℕ) (m : Masks) (l : Limits) (p : ℕ) → m.active / 2 ^ p % 256 ≡ 0 → every (busy_at d (m.local / 2 ^ p % 256) l p) 0 8 ≡ every (holds_by d m l) p 8
-eight_busy_case d m l p o =
-    every-same (busy_at d (m.local / 2 ^ p % 256) l p) (λ j. holds_by d m l (p + j)) 0 8
-    (λ j a b. busy_here d m l (p + j) (byte_off m.active p (p + j) (omega arith) (omega arith) o) refl (ap (λ (x : ℕ). eqb x 1) (byte_bit m.local p j (omega arith))) refl)
-    ∙ every_shift (holds_by d m l) p 0 8 ∙ ap (λ (k : ℕ). every (holds_by d m l) k 8) (add-zero p)
+  -- eight idle positions from p on
+  pub eight_case : (p : ℕ) → p + 8 ≤ 64 → c.masks.active / 2 ^ p % 256 ≡ 255 → every (holds c) p 8 ≡ zero_words c.desk.now (8 + p * 2) (8 + p * 2 + 16)
+  eight_case p h o = idle_words p 8 h (λ k a b. byte_on c.masks.active p k a b o)

@@ -34,12 +34,6 @@ unfolding every
 every-same p q i zero f = refl
 every-same p q i (suc n) f = rw (f i (omega arith) (omega arith), every-same p q (suc i) n (λ k a b. f k (omega arith) (omega arith))) refl
 
--- a test from b on, by the distance from b
-pub every_shift : (p : ℕ → Bool) (b i n : ℕ) → every (λ k. p (b + k)) i n ≡ every p (b + i) n
-unfolding every
-every_shift p b i zero = refl
-every_shift p b i (suc n) = rw (every_shift p b (suc i) n, add-suc b i) refl
-
 -- the numbers two by two
 pub every_pairs : (p : ℕ → Bool) (b i n : ℕ) → every (λ k. p (b + k * 2) && p (b + k * 2 + 1)) i n ≡ every p (b + i * 2) (n * 2)
 unfolding every
@@ -49,18 +43,17 @@ every_pairs p b i (suc n) =
     let v : b + suc i * 2 ≡ suc (suc (b + i * 2)) = omega arith in
     rw (u, every_pairs p b (suc i) n, v, add-one (b + i * 2)) (and_assoc (p (b + i * 2)) (p (suc (b + i * 2))) (every p (suc (suc (b + i * 2))) (n * 2)))
 
--- a loop from k that has come to i
-module _ (p : ℕ → Bool) (k i : ℕ) where
-  pub every-start : true ≡ every p k (k - k)
-  unfolding every
-  every-start = let e : k - k ≡ 0 = omega arith in rw e refl
+-- a loop from k that has come to i; at first it has seen none
+pub every_none : (p : ℕ → Bool) (k n : ℕ) → n ≡ 0 → every p k n ≡ true
+unfolding every
+every_none p k n e = rw e refl
 
-  pub every-step : {x y : Bool} → k ≤ i → x ≡ every p k (i - k) → y ≡ p i → x && y ≡ every p k (i + 1 - k)
-  every-step h e f =
-      let n : i + 1 - k ≡ i - k + 1 = omega arith in
-      let j : k + (i - k) ≡ i = omega arith in
-      sym (rw (n, every_more p k (i - k), j, e, f) refl)
+pub every_step : (p : ℕ → Bool) (k i : ℕ) → k ≤ i → every p k (i + 1 - k) ≡ every p k (i - k) && p i
+every_step p k i h =
+    let n : i + 1 - k ≡ i - k + 1 = omega arith in
+    let j : k + (i - k) ≡ i = omega arith in
+    rw (n, every_more p k (i - k), j) refl
 
 -- a loop by eights that has come to i
-pub every_eight : (p : ℕ → Bool) (i : ℕ) {x y : Bool} → x ≡ every p 0 i → y ≡ every p i 8 → x && y ≡ every p 0 (i + 8)
-every_eight p i e f = sym (rw (every_split p 0 i 8, zero-add i, e, f) refl)
+pub every_eight : (p : ℕ → Bool) (i : ℕ) → every p 0 (i + 8) ≡ every p 0 i && every p i 8
+every_eight p i = every_split p 0 i 8 ∙ rw (zero-add i) refl

@@ -39,8 +39,8 @@ module _ (x k i : ℕ) (h : k ≤ i) (b : i < k + 8) where
 
 -- `active & !local == 0` says that every idle position's local active bit is 1
 module _ (a l : ℕ) (s : l < 2 ^ 64) where
-  pub idle-local : bit_and a (NOT 64 l) ≡ 0 → (i : ℕ) → i < 64 → bit a i ≡ 1 → bit l i ≡ 1
-  idle-local e i h o =
+  pub idle_local : bit_and a (NOT 64 l) ≡ 0 → (i : ℕ) → i < 64 → bit a i ≡ 1 → bit l i ≡ 1
+  idle_local e i h o =
       omega (arith, bit-and a (NOT 64 l) i, ap (λ (x : ℕ). bit x i) e, bit-zero i, bit_not 64 l i s h, bit_low l i)
 
   pub local-idle : a < 2 ^ 64 → ((i : ℕ) → i < 64 → bit a i ≡ 1 → bit l i ≡ 1) → bit_and a (NOT 64 l) ≡ 0

@@ -31,7 +31,7 @@ high_on n x i e h k = bit-from n x i h ∙ rw e (sym (bit-from n (ones 64) i h))
 
 module _ (d t s : List ℕ) (ok : sound (store_of d t s) ≡ true) where
   both : all_hold (head_rules (desk_of d) (length t / 64) (length s / 64)) && cards_hold d (length t / 64) (length s / 64) ≡ true
-  both = sound_is d t s ∙ ok
+  both = sym (sound_is d t s) ∙ ok
 
   head_holds : all_hold (head_rules (desk_of d) (length t / 64) (length s / 64)) ≡ true
   head_holds = and_left (all_hold (head_rules (desk_of d) (length t / 64) (length s / 64))) _ both

@@ -1,6 +1,6 @@
 -- The desk is sound: the rules before the cards, then those of the cards.
 use mathlib.Core.Path.{◌≡◌, sym, ap, ◌∙◌}
-use mathlib.Core.Bool.{Bool, true, false, ◌&&◌}
+use mathlib.Core.Bool.{Bool, ◌&&◌}
 use mathlib.Core.List.{List, ◌++◌}
 use Prim.Native.Nat.{ℕ, ◌/◌}
 use lib.ListN.{length}
@@ -26,15 +26,10 @@ module _ (d : List ℕ) (a b : ℕ) where
       ∙ sym (holds-append (head_rules (desk_of d) a b) (cards_rules (masks_of d) a b (u32_at d 12) (each (card_at d) 0 64) 0))
 
 module _ (d t s : List ℕ) where
-  pub sound_is : head d (length t / 64) (length s / 64) && cards_hold d (length t / 64) (length s / 64) ≡ sound (store_of d t s)
+  pub sound_is : sound (store_of d t s) ≡ head d (length t / 64) (length s / 64) && cards_hold d (length t / 64) (length s / 64)
   unfolding sound desk_rules store_of desk_of
   sound_is =
-      rules_are d (length t / 64) (length s / 64)
+      sym
+      (rules_are d (length t / 64) (length s / 64)
       ∙ ap (λ (a : ℕ). rules d a (length s / 64)) (sym (length-each (slot_at t) 0 (length t / 64)))
-      ∙ ap (λ (b : ℕ). rules d (length (slots_of t)) b) (sym (length-each (slot_at s) 0 (length s / 64)))
-
-  pub sound-cards : {x y : Bool} → x ≡ head d (length t / 64) (length s / 64) → x ≡ true → y ≡ cards_hold d (length t / 64) (length s / 64) → y ≡ sound (store_of d t s)
-  sound-cards p q e = e ∙ ap (λ (b : Bool). b && cards_hold d (length t / 64) (length s / 64)) (sym q ∙ p) ∙ sound_is
-
-  pub unsound_head : {x : Bool} → x ≡ head d (length t / 64) (length s / 64) → x ≡ false → false ≡ sound (store_of d t s)
-  unsound_head p q = ap (λ (b : Bool). b && cards_hold d (length t / 64) (length s / 64)) (sym q ∙ p) ∙ sound_is
+      ∙ ap (λ (b : ℕ). rules d (length (slots_of t)) b) (sym (length-each (slot_at s) 0 (length s / 64))))

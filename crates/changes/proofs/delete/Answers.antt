@@ -1,53 +1,39 @@
-use mathlib.Core.Path.{◌≡◌, sym, ◌∙◌}
-use Prim.Native.Nat.{ℕ, ◌/◌, ◌<◌}
+use mathlib.Core.Path.{refl}
 use native.Mathlib.Omega.{arith}
-use lib.ListN.{length}
-use Rattle.rules.specs.Answers.{change_says}
+use Rattle.std.proofs.Common.{rules}
+use Rattle.rules.specs.Answers.{says, number_of, change_tells}
 use Rattle.rules.specs.Memory.{store_of}
+use Rattle.rules.proofs.Refused.{refused-on}
 use Rattle.joins.proofs.Cases.{delete-zero}
-use Rattle.changes.proofs.Ways.{deletes_absent, deletes, deletes_not}
-use borrow.Author.Tests.{eqb-true, eqb-false, ltb-true, ltb-false}
+use Rattle.changes.proofs.Ways.{deletes_absent, deletes, deletes_room}
 use Rattle.changes.proofs.delete.Goals as goal
 
-pub returns-then-is_none : goal.returns-then-is_none
-unfolding change_says
-returns-then-is_none c =
+pub returns-then-eq : goal.returns-then-eq
+unfolding says number_of
+returns-then-eq c =
     let args = c.args in
-    delete-zero (store_of args.desk.now args.table.now args.shelf.now) args.k.0 (eqb-true args.k.0 0 (sym c.is_none.ensures ∙ c.if-is_none.true))
+    delete-zero (store_of args.desk.now args.table.now args.shelf.now) args.k.0 (search rules)
 
-pub keep-kept-requires : goal.keep-kept-requires
-keep-kept-requires c =
-    let slot : ℕ = c.bearing-i.result.0 in
-    let here : slot < length c.args.table.now / 64 = omega (arith, ltb-true slot c.slot_count.result (sym c.below.ensures ∙ c.if-below.true), c.slot_count.ensures) in
-    here
-
-pub free-requires : goal.free-requires
-free-requires c =
-    let slot : ℕ = c.bearing-i.result.0 in
-    let here : slot < length c.args.table.now / 64 = omega (arith, ltb-true slot c.slot_count.result (sym c.below.ensures ∙ c.if-below.true), c.slot_count.ensures) in
-    here
-
-pub returns-then-goes_on : goal.returns-then-goes_on
-unfolding change_says
-returns-then-goes_on c =
-    let given : c.args.k.0 ≡ 0 → ⊥ = eqb-false c.args.k.0 0 (sym c.is_none.ensures ∙ c.if-is_none.false) in
-    let slot : ℕ = c.bearing-i.result.0 in
-    let here : slot < length c.args.table.now / 64 = omega (arith, ltb-true slot c.slot_count.result (sym c.below.ensures ∙ c.if-below.true), c.slot_count.ensures) in
+pub returns-in_default : goal.returns-in_default
+unfolding says number_of
+returns-in_default c =
     let args = c.args in
-    deletes args.desk.now args.table.now args.shelf.now args.k.0 slot c.bearing-i.ensures here c.masks_at.ensures c.keep-kept.result c.keep-kept.ensures (sym c.goes_on.ensures ∙ c.if-goes_on.true) c.requires (λ j. omega (arith, c.shared_slice_known-1.given j)) (λ j. omega (arith, c.slice_known-1.given j)) given c.free.ensures
+    let none = c.in_default in
+    let f = none.ensures in
+    deletes_absent args.desk.now args.table.now args.shelf.now args.k.0 _ refl (search rules) (omega (arith, f))
 
-pub returns-then-below : goal.returns-then-below
-unfolding change_says
-returns-then-below c =
-    let given : c.args.k.0 ≡ 0 → ⊥ = eqb-false c.args.k.0 0 (sym c.is_none.ensures ∙ c.if-is_none.false) in
-    let slot : ℕ = c.bearing-i.result.0 in
-    let here : slot < length c.args.table.now / 64 = omega (arith, ltb-true slot c.slot_count.result (sym c.below.ensures ∙ c.if-below.true), c.slot_count.ensures) in
+pub returns-in_err-keep : goal.returns-in_err-keep
+returns-in_err-keep c =
     let args = c.args in
-    deletes_not args.desk.now args.table.now args.shelf.now args.k.0 slot c.bearing-i.ensures here c.masks_at.ensures c.keep-kept.result c.keep-kept.ensures (sym c.goes_on.ensures ∙ c.if-goes_on.false) given
+    let some = c.in-Some in
+    let f = some.ensures in
+    rw (refused-on change_tells c.from_residual.result c.in_err-keep.field-0.0 c.from_residual.ensures.1)
+    (deletes_room args.desk.now args.table.now args.shelf.now args.k.0 some.i.0 f.0 (omega (arith, f)) c.masks_at.ensures (rw c.in_err-keep.was at c.keep.ensures) (search rules))
 
 pub returns : goal.returns
-unfolding change_says
+unfolding says
 returns c =
-    let given : c.args.k.0 ≡ 0 → ⊥ = eqb-false c.args.k.0 0 (sym c.is_none.ensures ∙ c.if-is_none.false) in
     let args = c.args in
-    deletes_absent args.desk.now args.table.now args.shelf.now args.k.0 c.bearing-i.result.0 c.bearing-i.ensures given (omega (arith, ltb-false c.bearing-i.result.0 c.slot_count.result (sym c.below.ensures ∙ c.if-below.false), c.slot_count.ensures))
+    let some = c.in-Some in
+    let f = some.ensures in
+    deletes args.desk.now args.table.now args.shelf.now args.k.0 some.i.0 f.0 (omega (arith, f)) c.masks_at.ensures c.in_ok-keep.field-0 (rw c.in_ok-keep.was at c.keep.ensures) (omega arith) (λ j. omega arith) (λ j. search rules) (search rules) c.free.ensures

@@ -7,7 +7,4 @@ use Rattle.rules.specs.Memory.{each, slot_at, slots_of}
 use Rattle.counts.proofs.used.Given as goal
 
 abbrev pub invariant-loop-i : goal.invariant-loop-i
-invariant-loop-i l = (l.i ≤ l.end) × (l.n ≤ l.i) × (l.n + count (in_use) (each (slot_at l.slots) l.i (length l.slots / 64 - l.i)) ≡ count (in_use) (slots_of l.slots))
-
-abbrev pub decreases-loop-i : goal.decreases-loop-i
-decreases-loop-i l = l.end - l.i
+invariant-loop-i l = (l.n ≤ l.i) × (l.n + count (in_use) (each (slot_at l.slots) l.i (length l.slots / 64 - l.i)) ≡ count (in_use) (slots_of l.slots))

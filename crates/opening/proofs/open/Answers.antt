@@ -1,18 +1,18 @@
 use native.Mathlib.Omega.{arith}
-use Rattle.rules.specs.Answers.{change_says}
+use Rattle.rules.specs.Answers.{says, number_of}
 use Rattle.rules.specs.Memory.{store_of}
 use Rattle.joins.proofs.Cases.{open_range}
 use Rattle.opening.proofs.Opens.{opens}
 use Rattle.opening.proofs.open.Goals as goal
 
-pub returns-then-n : goal.returns-then-n
-unfolding change_says
-returns-then-n c =
+pub returns-then-not-is_n : goal.returns-then-not-is_n
+unfolding says number_of
+returns-then-not-is_n c =
     let args = c.args in
-    opens args.desk.now args.table.now args.shelf.now args.n c.requires.0 (omega arith) c.requires.1 c.requires.2 c.if-n.true c.slot_count-t.ensures c.slot_count-r.ensures c.put_fresh.ensures c.clear_all.ensures c.clear_all-then-n.ensures
+    open_range (store_of args.desk.now args.table.now args.shelf.now) args.n c.if-not-is_n.true
 
 pub returns : goal.returns
-unfolding change_says
+unfolding says
 returns c =
     let args = c.args in
-    open_range (store_of args.desk.now args.table.now args.shelf.now) args.n c.if-n.false
+    opens args.desk.now args.table.now args.shelf.now args.n (omega arith) (omega arith) c.requires.0 c.requires.1 c.if-not-is_n.false c.slot_count-t.ensures c.slot_count-r.ensures c.put_fresh.ensures (c.fill.ensures.after (λ y e. e)) (c.fill-2.ensures.after (λ y e. e))

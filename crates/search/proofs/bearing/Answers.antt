@@ -1,4 +1,3 @@
-use mathlib.Core.Path.{◌∙◌}
 use Prim.Native.Nat.{◌-◌, ◌/◌}
 use lib.ListN.{length}
 use Rattle.search.proofs.Passing.{same_number}
@@ -6,6 +5,5 @@ use Rattle.search.proofs.bearing.Goals as goal
 
 pub returns : goal.returns
 returns c =
-    let lowest = c.lowest in
     let l = c.args.slots.now in
-    lowest.ensures ∙ same_number l c.args.k.0 c.args.from.0 (length l / 64 - c.args.from.0)
+    rw (same_number l c.args.k.0 c.args.from.0 (length l / 64 - c.args.from.0)) at c.lowest.ensures

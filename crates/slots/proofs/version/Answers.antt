@@ -7,6 +7,6 @@ use Rattle.slots.proofs.version.Goals as goal
 pub returns : goal.returns
 unfolding field
 returns c =
-    let offset = c.offset-from in
-    let width : offset.result + 56 - offset.result ≡ 56 = omega arith in
-    (rw (width, offset.ensures) refl, rw offset.ensures refl)
+    let start = c.start-from in
+    let width : start.result + 56 - start.result ≡ 56 = omega arith in
+    (rw (width, start.ensures) refl, rw start.ensures refl)

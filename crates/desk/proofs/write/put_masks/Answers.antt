@@ -1,11 +1,7 @@
 use native.Mathlib.Omega.{arith}
 use Rattle.masks.specs.Held.{held}
-use Rattle.desk.proofs.Written.{masks-written}
+use Rattle.joins.proofs.Desks.{masks_puts}
 use Rattle.desk.proofs.write.put_masks.Goals as goal
 
 pub returns : goal.returns
-returns c =
-    let stable = c.set64 in
-    let active = c.set64-2 in
-    let local = c.set64-3 in
-    masks-written c.args.desk.now (held c.args.m) (omega arith) stable.ensures active.ensures local.ensures
+returns c = rw (c.put_at-3.ensures, c.put_at-2.ensures, c.put_at.ensures) (masks_puts c.args.desk.now (held c.args.m) (omega arith))

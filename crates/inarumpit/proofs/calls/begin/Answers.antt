@@ -1,26 +1,36 @@
 use mathlib.Core.Path.{refl}
-use native.Mathlib.Omega.{arith}
-use Rattle.rules.specs.Answers.{begin_says}
+use Rattle.std.proofs.Common.{rules}
+use Rattle.rules.specs.Answers.{begin_tells}
 use Rattle.rules.specs.Refusals.{Call, own_right, looks_at_desk, refused_as, out_of}
+use Rattle.rules.proofs.Refused.{refused-on}
 use Rattle.soundness.proofs.Says.{n_most}
-use Rattle.inarumpit.proofs.Replies.{LetIn, let_in, by_refusal, by_lengths, by_sound, by_rule}
+use Rattle.inarumpit.proofs.Replies.{by_lengths, by_sound, by_way, let_through, by_rule}
 use Rattle.inarumpit.proofs.calls.begin.Goals as goal
 
-pub begin-requires : goal.begin-requires
-unfolding looks_at_desk own_right
-begin-requires c =
-    let admitted : LetIn c.args.desk.now c.args.table.now c.args.shelf.now Call.begin = let_in _ c.way_in-shut.ensures c.if-shut-eq0.true (λ j. omega (arith, c.slice_known-1.given j)) (λ j. omega (arith, c.shared_slice_known-1.given j)) (λ j. omega (arith, c.shared_slice_known-2-1.given j)) in
-    let args = c.args in
-    ((by_lengths admitted).desk, n_most args.desk.now args.table.now args.shelf.now (by_sound admitted refl))
+pub returns-in_err-way_in : goal.returns-in_err-way_in
+unfolding own_right looks_at_desk refused_as out_of
+returns-in_err-way_in c =
+    rw (refused-on begin_tells c.from_residual.result c.in_err-way_in.field-0.0 c.from_residual.ensures.1) (by_way Call.begin refl refl c.in_err-way_in.field-0.0 c.in_err-way_in.ensures)
 
-pub returns-then-shut-eq0 : goal.returns-then-shut-eq0
-unfolding looks_at_desk own_right
-returns-then-shut-eq0 c =
-    let admitted : LetIn c.args.desk.now c.args.table.now c.args.shelf.now Call.begin = let_in _ c.way_in-shut.ensures c.if-shut-eq0.true (λ j. omega (arith, c.slice_known-1.given j)) (λ j. omega (arith, c.shared_slice_known-1.given j)) (λ j. omega (arith, c.shared_slice_known-2-1.given j)) in
-    let here = admitted in
+pub returns-in_default : goal.returns-in_default
+unfolding own_right looks_at_desk
+returns-in_default c =
+    let none = c.in_default in
+    let through = let_through Call.begin refl refl c.in_ok-way_in.ensures.1 (λ j. search rules) (λ j. search rules) (λ j. search rules) in
+    absurd (none.ensures.cases (by_lengths through).desk)
+
+pub begin-requires : goal.begin-requires
+unfolding own_right looks_at_desk
+begin-requires c =
     let args = c.args in
-    by_rule here c.desk-1.given refl refl (λ j. omega (arith, c.slice_known-then-shut-eq0-1.given j)) here.table_bytes here.shelf_bytes (c.begin.ensures args.table.now args.shelf.now)
+    let some = c.in-Some in
+    let through = let_through Call.begin refl refl c.in_ok-way_in.ensures.1 (λ j. search rules) (λ j. search rules) (λ j. search rules) in
+    rw some.ensures.cases.same (n_most args.desk.now args.table.now args.shelf.now (by_sound through refl))
 
 pub returns : goal.returns
-unfolding begin_says own_right looks_at_desk refused_as out_of
-returns c = by_refusal _ c.way_in-shut.ensures c.if-shut-eq0.false
+unfolding own_right looks_at_desk
+returns c =
+    let args = c.args in
+    let some = c.in-Some in
+    let through = let_through Call.begin refl refl c.in_ok-way_in.ensures.1 (λ j. search rules) (λ j. search rules) (λ j. search rules) in
+    by_rule through (search rules) refl refl (λ j. search rules) through.table_bytes through.shelf_bytes (rw some.ensures.cases.same at (c.begin.ensures args.table.now args.shelf.now))

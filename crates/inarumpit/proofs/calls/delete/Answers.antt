@@ -1,23 +1,19 @@
 use mathlib.Core.Path.{refl}
-use native.Mathlib.Omega.{arith}
-use Rattle.rules.specs.Answers.{change_says}
+use Rattle.std.proofs.Common.{rules}
+use Rattle.rules.specs.Answers.{change_tells}
 use Rattle.rules.specs.Refusals.{Call, Change, own_right, looks_at_desk, refused_as, out_of}
-use Rattle.inarumpit.proofs.Replies.{LetIn, let_in, by_refusal, by_lengths, by_rule}
+use Rattle.rules.proofs.Refused.{refused-on}
+use Rattle.inarumpit.proofs.Replies.{by_way, let_through, by_rule}
 use Rattle.inarumpit.proofs.calls.delete.Goals as goal
 
-pub delete-requires : goal.delete-requires
-unfolding looks_at_desk own_right
-delete-requires c =
-    let admitted : LetIn c.args.desk.now c.args.table.now c.args.shelf.now (Call.change (Change.delete c.args.k.0)) = let_in _ c.way_in-shut.ensures c.if-shut-eq0.true (λ j. omega (arith, c.shared_slice_known-1.given j)) (λ j. omega (arith, c.slice_known-1.given j)) (λ j. omega (arith, c.slice_known-2-1.given j)) in
-    (by_lengths admitted).desk
-
-pub returns-then-shut-eq0 : goal.returns-then-shut-eq0
-unfolding looks_at_desk own_right
-returns-then-shut-eq0 c =
-    let admitted : LetIn c.args.desk.now c.args.table.now c.args.shelf.now (Call.change (Change.delete c.args.k.0)) = let_in _ c.way_in-shut.ensures c.if-shut-eq0.true (λ j. omega (arith, c.shared_slice_known-1.given j)) (λ j. omega (arith, c.slice_known-1.given j)) (λ j. omega (arith, c.slice_known-2-1.given j)) in
-    let here = admitted in
-    by_rule here refl c.table-1.given c.shelf-1.given here.desk_bytes (λ j. omega (arith, c.slice_known-then-shut-eq0-1.given j)) (λ j. omega (arith, c.slice_known-then-shut-eq0-2-1.given j)) c.delete.ensures
+pub returns-in_err-desk : goal.returns-in_err-desk
+unfolding own_right looks_at_desk refused_as out_of
+returns-in_err-desk c =
+    rw (refused-on change_tells c.from_residual.result c.in_err-desk.field-0.0 c.from_residual.ensures.1)
+    (by_way (Call.change (Change.delete c.args.k.0)) refl refl c.in_err-desk.field-0.0 c.in_err-desk.ensures)
 
 pub returns : goal.returns
-unfolding change_says own_right looks_at_desk refused_as out_of
-returns c = by_refusal _ c.way_in-shut.ensures c.if-shut-eq0.false
+unfolding own_right looks_at_desk
+returns c =
+    let through = let_through (Call.change (Change.delete c.args.k.0)) refl refl c.in_ok-desk.ensures.1 (λ j. search rules) (λ j. search rules) (λ j. search rules) in
+    by_rule through refl (search rules) (search rules) through.desk_bytes (λ j. search rules) (λ j. search rules) (rw c.in_ok-desk.ensures.0 at c.delete.ensures)

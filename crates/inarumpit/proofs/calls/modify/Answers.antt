@@ -1,25 +1,29 @@
 use mathlib.Core.Path.{refl}
-use native.Mathlib.Omega.{arith}
-use Rattle.rules.specs.Answers.{change_says}
+use lib.ListN.{length}
+use borrow.Author.Tests.{eq-eqb, ne_eqb}
+use Rattle.std.proofs.Common.{rules}
+use Rattle.rules.specs.Answers.{change_tells, says, number_of}
 use Rattle.rules.specs.Refusals.{Call, Change, own_right, looks_at_desk, refused_as, out_of}
-use Rattle.inarumpit.proofs.Replies.{LetIn, let_in, by_refusal, by_lengths, by_own, by_rule}
-use borrow.Author.Tests.{eqb-true}
+use Rattle.rules.proofs.Refused.{refused-on}
+use Rattle.inarumpit.proofs.Replies.{by_own_length, by_way, let_through, by_rule}
 use Rattle.inarumpit.proofs.calls.modify.Goals as goal
 
-pub modify-requires : goal.modify-requires
-unfolding own_right looks_at_desk
-modify-requires c =
-    let admitted : LetIn c.args.desk.now c.args.table.now c.args.shelf.now (Call.change (Change.modify c.args.k.0 c.args.body.now)) = let_in _ c.own_way_in-shut.ensures c.if-shut-eq0.true (λ j. omega (arith, c.shared_slice_known-1.given j)) (λ j. omega (arith, c.slice_known-1.given j)) (λ j. omega (arith, c.slice_known-2-1.given j)) in
-    let here = admitted in
-    ((by_lengths here).desk, eqb-true _ _ (by_own here))
+pub returns-in_default : goal.returns-in_default
+unfolding says number_of own_right looks_at_desk refused_as out_of
+returns-in_default c =
+    let none = c.in_default in
+    by_own_length (Call.change (Change.modify c.args.k.0 c.args.body.now)) (ne_eqb (length c.args.body.now) 52 none.ensures.cases)
 
-pub returns-then-shut-eq0 : goal.returns-then-shut-eq0
-unfolding looks_at_desk own_right
-returns-then-shut-eq0 c =
-    let admitted : LetIn c.args.desk.now c.args.table.now c.args.shelf.now (Call.change (Change.modify c.args.k.0 c.args.body.now)) = let_in _ c.own_way_in-shut.ensures c.if-shut-eq0.true (λ j. omega (arith, c.shared_slice_known-1.given j)) (λ j. omega (arith, c.slice_known-1.given j)) (λ j. omega (arith, c.slice_known-2-1.given j)) in
-    let here = admitted in
-    by_rule here refl c.table-1.given c.shelf-1.given here.desk_bytes (λ j. omega (arith, c.slice_known-then-shut-eq0-1.given j)) (λ j. omega (arith, c.slice_known-then-shut-eq0-2-1.given j)) c.modify.ensures
+pub returns-in_err-desk : goal.returns-in_err-desk
+unfolding own_right looks_at_desk refused_as out_of
+returns-in_err-desk c =
+    let some = c.in-Some in
+    rw (refused-on change_tells c.from_residual.result c.in_err-desk.field-0.0 c.from_residual.ensures.1)
+    (by_way (Call.change (Change.modify c.args.k.0 c.args.body.now)) (eq-eqb (length c.args.body.now) 52 some.ensures.cases.long) refl c.in_err-desk.field-0.0 c.in_err-desk.ensures)
 
 pub returns : goal.returns
-unfolding change_says own_right looks_at_desk refused_as out_of
-returns c = by_refusal _ c.own_way_in-shut.ensures c.if-shut-eq0.false
+unfolding own_right looks_at_desk
+returns c =
+    let some = c.in-Some in
+    let through = let_through (Call.change (Change.modify c.args.k.0 c.args.body.now)) (eq-eqb (length c.args.body.now) 52 some.ensures.cases.long) refl c.in_ok-desk.ensures.1 (λ j. search rules) (λ j. search rules) (λ j. search rules) in
+    by_rule through refl (search rules) (search rules) through.desk_bytes (λ j. search rules) (λ j. search rules) (rw (c.in_ok-desk.ensures.0, some.ensures.cases.same) at c.modify.ensures)

@@ -1,25 +1,48 @@
-use mathlib.Core.Path.{refl}
 use native.Mathlib.Omega.{arith}
-use Rattle.rules.specs.Answers.{next_says}
+use mathlib.Core.Path.{refl}
+use lib.ListN.{length}
+use borrow.Author.Tests.{eq-eqb, ne_eqb}
+use Rattle.std.proofs.Common.{rules}
+use Rattle.rules.specs.Answers.{next_tells, says, number_of}
 use Rattle.rules.specs.Refusals.{Call, own_right, looks_at_desk, refused_as, out_of}
-use Rattle.inarumpit.proofs.Replies.{LetIn, let_in, by_refusal, by_lengths, by_own, by_sound, by_rule}
-use borrow.Author.Tests.{eqb-true}
+use Rattle.rules.proofs.Refused.{refused-on}
+use Rattle.inarumpit.proofs.Replies.{by_lengths, by_sound, by_own_length, by_way, let_through, by_rule}
 use Rattle.inarumpit.proofs.calls.next.Goals as goal
+
+pub returns-in_default : goal.returns-in_default
+unfolding says number_of own_right looks_at_desk refused_as out_of
+returns-in_default c =
+    let none = c.in_default in
+    by_own_length (Call.next c.args.ticket.0 c.args.budget c.args.out.now) (ne_eqb (length c.args.out.now) 56 none.ensures.cases)
+
+pub returns-in_err-way_in : goal.returns-in_err-way_in
+unfolding own_right looks_at_desk refused_as out_of
+returns-in_err-way_in c =
+    let some = c.in-Some in
+    rw (refused-on next_tells c.from_residual.result c.in_err-way_in.field-0.0 c.from_residual.ensures.1, some.ensures.cases.same)
+    (by_way (Call.next c.args.ticket.0 c.args.budget c.args.out.now) (eq-eqb (length c.args.out.now) 56 some.ensures.cases.long) refl c.in_err-way_in.field-0.0 c.in_err-way_in.ensures)
+
+pub returns-in_default-as_mut_array : goal.returns-in_default-as_mut_array
+unfolding own_right looks_at_desk
+returns-in_default-as_mut_array c =
+    let some = c.in-Some in
+    let none = c.in_default-as_mut_array in
+    let through = let_through (Call.next c.args.ticket.0 c.args.budget c.args.out.now) (eq-eqb (length c.args.out.now) 56 some.ensures.cases.long) refl c.in_ok-way_in.ensures.1 (λ j. search rules) (λ j. search rules) (λ j. search rules) in
+    absurd (none.ensures.cases (by_lengths through).desk)
 
 pub next-requires : goal.next-requires
 unfolding own_right looks_at_desk
 next-requires c =
-    let admitted : LetIn c.args.desk.now c.args.table.now c.args.shelf.now (Call.next c.args.ticket.0 c.args.budget c.args.out.now) = let_in _ c.own_way_in-shut.ensures c.if-shut-eq0.true (λ j. omega (arith, c.slice_known-1.given j)) (λ j. omega (arith, c.slice_known-2-1.given j)) (λ j. omega (arith, c.slice_known-3-1.given j)) in
-    let here = admitted in
-    let z = by_lengths here in
-    ((z.desk, omega arith, by_sound here refl), eqb-true _ _ (by_own here))
-
-pub returns-then-shut-eq0 : goal.returns-then-shut-eq0
-unfolding looks_at_desk own_right
-returns-then-shut-eq0 c =
-    let admitted : LetIn c.args.desk.now c.args.table.now c.args.shelf.now (Call.next c.args.ticket.0 c.args.budget c.args.out.now) = let_in _ c.own_way_in-shut.ensures c.if-shut-eq0.true (λ j. omega (arith, c.slice_known-1.given j)) (λ j. omega (arith, c.slice_known-2-1.given j)) (λ j. omega (arith, c.slice_known-3-1.given j)) in
-    by_rule admitted c.desk-1.given c.table-1.given c.shelf-1.given (λ j. omega (arith, c.slice_known-then-shut-eq0-1.given j)) (λ j. omega (arith, c.slice_known-then-shut-eq0-2-1.given j)) (λ j. omega (arith, c.slice_known-then-shut-eq0-3-1.given j)) c.next.ensures
+    let some = c.in-Some in
+    let whole = c.in-Some-as_mut_array in
+    let through = let_through (Call.next c.args.ticket.0 c.args.budget c.args.out.now) (eq-eqb (length c.args.out.now) 56 some.ensures.cases.long) refl c.in_ok-way_in.ensures.1 (λ j. search rules) (λ j. search rules) (λ j. search rules) in
+    let z = by_lengths through in
+    rw whole.ensures.cases.same (z.desk, omega (arith, z.slots, z.entries), by_sound through refl)
 
 pub returns : goal.returns
-unfolding next_says own_right looks_at_desk refused_as out_of
-returns c = by_refusal _ c.own_way_in-shut.ensures c.if-shut-eq0.false
+unfolding own_right looks_at_desk
+returns c =
+    let some = c.in-Some in
+    let whole = c.in-Some-as_mut_array in
+    let through = let_through (Call.next c.args.ticket.0 c.args.budget c.args.out.now) (eq-eqb (length c.args.out.now) 56 some.ensures.cases.long) refl c.in_ok-way_in.ensures.1 (λ j. search rules) (λ j. search rules) (λ j. search rules) in
+    by_rule through (search rules) (search rules) (search rules) (λ j. search rules) (λ j. search rules) (λ j. search rules) (rw (whole.ensures.cases.same, some.ensures.cases.same) at c.next.ensures)

@@ -1,26 +1,33 @@
-use mathlib.Core.Path.{refl}
-use mathlib.Core.Bool.{true, false}
 use native.Mathlib.Omega.{arith}
-use Rattle.rules.specs.Answers.{change_says}
+use mathlib.Core.Path.{refl}
+use Rattle.std.proofs.Common.{rules, true, false}
+use Rattle.rules.specs.Answers.{says, number_of}
 use Rattle.rules.specs.Refusals.{Call, own_right, looks_at_desk, refused_as, out_of}
-use Rattle.inarumpit.proofs.Replies.{LetIn, let_in, way_wrong, way_blind, by_refusal, by_lengths, by_rule}
+use Rattle.inarumpit.proofs.Replies.{way_wrong, way_lengths, way_blind, let_in, by_refusal, by_rule}
 use Rattle.inarumpit.proofs.calls.open.Goals as goal
 
-pub open-requires : goal.open-requires
-unfolding looks_at_desk own_right
-open-requires c =
-    let admitted : LetIn c.args.desk.now c.args.table.now c.args.shelf.now (Call.opening c.args.n) = let_in _ (way_blind true false c.args.desk.now c.args.table.now c.args.shelf.now c.lengths_right.ensures c.if-lengths_right.true refl) refl (λ j. omega (arith, c.slice_known-1.given j)) (λ j. omega (arith, c.slice_known-2-1.given j)) (λ j. omega (arith, c.slice_known-3-1.given j)) in
-    let z = by_lengths admitted in
-    (z.desk, omega arith, omega arith)
+pub returns-then-not-lengths_right : goal.returns-then-not-lengths_right
+unfolding says number_of own_right looks_at_desk refused_as out_of
+returns-then-not-lengths_right c =
+    let args = c.args in
+    by_refusal (Call.opening args.n) (way_wrong true false args.desk.now args.table.now args.shelf.now c.lengths_right.ensures c.if-not-lengths_right.true) (λ e. absurd (omega (arith, e)))
 
-pub returns-then-lengths_right : goal.returns-then-lengths_right
-unfolding looks_at_desk own_right
-returns-then-lengths_right c =
-    let admitted : LetIn c.args.desk.now c.args.table.now c.args.shelf.now (Call.opening c.args.n) = let_in _ (way_blind true false c.args.desk.now c.args.table.now c.args.shelf.now c.lengths_right.ensures c.if-lengths_right.true refl) refl (λ j. omega (arith, c.slice_known-1.given j)) (λ j. omega (arith, c.slice_known-2-1.given j)) (λ j. omega (arith, c.slice_known-3-1.given j)) in
-    by_rule admitted c.desk-1.given c.table-1.given c.shelf-1.given (λ j. omega (arith, c.slice_known-then-lengths_right-1.given j)) (λ j. omega (arith, c.slice_known-then-lengths_right-2-1.given j)) (λ j. omega (arith, c.slice_known-then-lengths_right-3-1.given j)) c.before.before.before.before.before.before.«open».ensures
+pub returns-in_default : goal.returns-in_default
+returns-in_default c =
+    let args = c.args in
+    let none = c.in_default in
+    absurd (none.ensures.cases (way_lengths true false args.desk.now args.table.now args.shelf.now c.lengths_right.ensures c.if-not-lengths_right.false).desk)
+
+pub open-requires : goal.open-requires
+open-requires c =
+    let args = c.args in
+    let z = way_lengths true false args.desk.now args.table.now args.shelf.now c.lengths_right.ensures c.if-not-lengths_right.false in
+    (omega (arith, z.slots), omega (arith, z.entries))
 
 pub returns : goal.returns
-unfolding change_says own_right looks_at_desk refused_as out_of
+unfolding own_right looks_at_desk
 returns c =
     let args = c.args in
-    by_refusal _ (way_wrong true false args.desk.now args.table.now args.shelf.now c.lengths_right.ensures c.if-lengths_right.false) (λ e. absurd (omega (arith, e)))
+    let some = c.in-Some in
+    let through = let_in (Call.opening args.n) (way_blind true false args.desk.now args.table.now args.shelf.now c.lengths_right.ensures c.if-not-lengths_right.false refl) refl (λ j. search rules) (λ j. search rules) (λ j. search rules) in
+    by_rule through (search rules) (search rules) (search rules) (λ j. search rules) (λ j. search rules) (λ j. search rules) (rw some.ensures.cases.same at c.«open».ensures)

@@ -1,23 +1,26 @@
-use mathlib.Core.Path.{refl}
 use native.Mathlib.Omega.{arith}
-use Rattle.rules.specs.Answers.{owed_says}
+use mathlib.Core.Path.{refl}
+use Rattle.std.proofs.Common.{rules}
+use Rattle.rules.specs.Answers.{owed_tells}
 use Rattle.rules.specs.Refusals.{Call, Reading, own_right, looks_at_desk, refused_as, out_of}
-use Rattle.inarumpit.proofs.Replies.{LetIn, let_in, by_refusal, by_lengths, by_sound, by_reading}
+use Rattle.rules.proofs.Refused.{refused-on}
+use Rattle.inarumpit.proofs.Replies.{by_lengths, by_sound, by_way, let_through, by_reading}
 use Rattle.inarumpit.proofs.calls.owed.Goals as goal
 
-pub owed-requires : goal.owed-requires
-unfolding looks_at_desk own_right
-owed-requires c =
-    let admitted : LetIn c.args.desk.now c.args.table.now c.args.shelf.now (Call.reading (Reading.owed c.args.ticket.0)) = let_in _ c.way_in-shut.ensures c.if-shut-eq0.true (λ j. omega (arith, c.shared_slice_known-1.given j)) (λ j. omega (arith, c.shared_slice_known-2-1.given j)) (λ j. omega (arith, c.shared_slice_known-3-1.given j)) in
-    let z = by_lengths admitted in
-    (z.desk, omega arith, by_sound admitted refl)
+pub returns-in_err-desk : goal.returns-in_err-desk
+unfolding own_right looks_at_desk refused_as out_of
+returns-in_err-desk c =
+    rw (refused-on owed_tells c.from_residual.result c.in_err-desk.field-0.0 c.from_residual.ensures.1) (by_way (Call.reading (Reading.owed c.args.ticket.0)) refl refl c.in_err-desk.field-0.0 c.in_err-desk.ensures)
 
-pub returns-then-shut-eq0 : goal.returns-then-shut-eq0
-unfolding looks_at_desk own_right
-returns-then-shut-eq0 c =
-    let admitted : LetIn c.args.desk.now c.args.table.now c.args.shelf.now (Call.reading (Reading.owed c.args.ticket.0)) = let_in _ c.way_in-shut.ensures c.if-shut-eq0.true (λ j. omega (arith, c.shared_slice_known-1.given j)) (λ j. omega (arith, c.shared_slice_known-2-1.given j)) (λ j. omega (arith, c.shared_slice_known-3-1.given j)) in
-    by_reading admitted c.owed.ensures
+pub owed-requires : goal.owed-requires
+unfolding own_right looks_at_desk
+owed-requires c =
+    let through = let_through (Call.reading (Reading.owed c.args.ticket.0)) refl refl c.in_ok-desk.ensures.1 (λ j. search rules) (λ j. search rules) (λ j. search rules) in
+    let z = by_lengths through in
+    rw c.in_ok-desk.ensures.0 (z.desk, omega (arith, z.slots, z.entries), by_sound through refl)
 
 pub returns : goal.returns
-unfolding owed_says own_right looks_at_desk refused_as out_of
-returns c = by_refusal _ c.way_in-shut.ensures c.if-shut-eq0.false
+unfolding own_right looks_at_desk
+returns c =
+    let through = let_through (Call.reading (Reading.owed c.args.ticket.0)) refl refl c.in_ok-desk.ensures.1 (λ j. search rules) (λ j. search rules) (λ j. search rules) in
+    by_reading through (rw c.in_ok-desk.ensures.0 at c.owed.ensures)

@@ -1,22 +1,27 @@
-use mathlib.Core.Path.{refl}
 use native.Mathlib.Omega.{arith}
+use mathlib.Core.Path.{refl}
+use Rattle.std.proofs.Common.{rules}
 use Rattle.rules.specs.Refusals.{Call, Reading, own_right, looks_at_desk, refused_as, out_of}
-use Rattle.inarumpit.proofs.Replies.{LetIn, let_in, by_refusal, by_lengths, by_sound, by_reading}
+use Rattle.inarumpit.proofs.Replies.{by_lengths, by_sound, by_way, let_through, by_reading}
 use Rattle.inarumpit.proofs.calls.peek.Goals as goal
 
-pub peek-requires : goal.peek-requires
-unfolding looks_at_desk own_right
-peek-requires c =
-    let admitted : LetIn c.args.desk.now c.args.table.now c.args.shelf.now (Call.reading (Reading.peek c.args.ticket.0)) = let_in _ c.way_in-is_open.ensures c.if-is_open.true (λ j. omega (arith, c.shared_slice_known-1.given j)) (λ j. omega (arith, c.shared_slice_known-2-1.given j)) (λ j. omega (arith, c.shared_slice_known-3-1.given j)) in
-    let z = by_lengths admitted in
-    (z.desk, omega arith, by_sound admitted refl)
-
-pub returns-then-is_open : goal.returns-then-is_open
-unfolding looks_at_desk own_right
-returns-then-is_open c =
-    let admitted : LetIn c.args.desk.now c.args.table.now c.args.shelf.now (Call.reading (Reading.peek c.args.ticket.0)) = let_in _ c.way_in-is_open.ensures c.if-is_open.true (λ j. omega (arith, c.shared_slice_known-1.given j)) (λ j. omega (arith, c.shared_slice_known-2-1.given j)) (λ j. omega (arith, c.shared_slice_known-3-1.given j)) in
-    (by_reading admitted c.peek.ensures.0, c.peek.ensures.1)
-
-pub returns : goal.returns
+pub returns-in-Err : goal.returns-in-Err
 unfolding own_right looks_at_desk refused_as out_of
-returns c = (by_refusal _ c.way_in-is_open.ensures c.if-is_open.false, λ n. absurd (n refl))
+returns-in-Err c =
+    let err = c.in-Err in
+    (by_way (Call.reading (Reading.peek c.args.ticket.0)) refl refl err.field-0 err.ensures, λ n. absurd (n refl))
+
+pub peek-requires : goal.peek-requires
+unfolding own_right looks_at_desk
+peek-requires c =
+    let ok = c.in-Ok in
+    let through = let_through (Call.reading (Reading.peek c.args.ticket.0)) refl refl ok.ensures.1 (λ j. search rules) (λ j. search rules) (λ j. search rules) in
+    let z = by_lengths through in
+    rw ok.ensures.0 (z.desk, omega (arith, z.slots, z.entries), by_sound through refl)
+
+pub returns-in-Ok : goal.returns-in-Ok
+unfolding own_right looks_at_desk
+returns-in-Ok c =
+    let ok = c.in-Ok in
+    let through = let_through (Call.reading (Reading.peek c.args.ticket.0)) refl refl ok.ensures.1 (λ j. search rules) (λ j. search rules) (λ j. search rules) in
+    (by_reading through (rw ok.ensures.0 at c.peek.ensures.0), rw ok.ensures.0 at c.peek.ensures.1)

@@ -1,22 +1,26 @@
 use native.Mathlib.Omega.{arith}
-use Rattle.rules.specs.Answers.{tally_says}
+use mathlib.Core.Path.{refl}
+use Rattle.std.proofs.Common.{rules}
+use Rattle.rules.specs.Answers.{tally_tells, says}
 use Rattle.rules.specs.Refusals.{Call, Reading, own_right, looks_at_desk, refused_as, out_of}
-use Rattle.inarumpit.proofs.Replies.{LetIn, let_in, by_refusal, by_lengths, by_reading}
+use Rattle.rules.proofs.Refused.{refused-on}
+use Rattle.inarumpit.proofs.Replies.{by_lengths, by_way, let_through, by_reading}
 use Rattle.inarumpit.proofs.calls.tally.Goals as goal
 
-pub tally-requires : goal.tally-requires
-unfolding looks_at_desk own_right
-tally-requires c =
-    let admitted : LetIn c.args.desk.now c.args.table.now c.args.shelf.now (Call.reading Reading.tally) = let_in _ c.way_in-shut.ensures c.if-shut-eq0.true (λ j. omega (arith, c.shared_slice_known-1.given j)) (λ j. omega (arith, c.shared_slice_known-2-1.given j)) (λ j. omega (arith, c.shared_slice_known-3-1.given j)) in
-    let z = by_lengths admitted in
-    (omega arith, omega arith)
+pub returns-in_err-way_in : goal.returns-in_err-way_in
+unfolding own_right looks_at_desk refused_as out_of
+returns-in_err-way_in c =
+    rw (refused-on tally_tells c.from_residual.result c.in_err-way_in.field-0.0 c.from_residual.ensures.1) (by_way (Call.reading Reading.tally) refl refl c.in_err-way_in.field-0.0 c.in_err-way_in.ensures)
 
-pub returns-then-shut-eq0 : goal.returns-then-shut-eq0
-unfolding looks_at_desk own_right
-returns-then-shut-eq0 c =
-    let admitted : LetIn c.args.desk.now c.args.table.now c.args.shelf.now (Call.reading Reading.tally) = let_in _ c.way_in-shut.ensures c.if-shut-eq0.true (λ j. omega (arith, c.shared_slice_known-1.given j)) (λ j. omega (arith, c.shared_slice_known-2-1.given j)) (λ j. omega (arith, c.shared_slice_known-3-1.given j)) in
-    by_reading admitted (c.tally.ensures c.args.desk.now)
+pub tally-requires : goal.tally-requires
+unfolding own_right looks_at_desk
+tally-requires c =
+    let through = let_through (Call.reading Reading.tally) refl refl c.in_ok-way_in.ensures.1 (λ j. search rules) (λ j. search rules) (λ j. search rules) in
+    let z = by_lengths through in
+    (omega (arith, z.slots), omega (arith, z.entries))
 
 pub returns : goal.returns
-unfolding tally_says own_right looks_at_desk refused_as out_of
-returns c = by_refusal _ c.way_in-shut.ensures c.if-shut-eq0.false
+unfolding own_right looks_at_desk says
+returns c =
+    let through = let_through (Call.reading Reading.tally) refl refl c.in_ok-way_in.ensures.1 (λ j. search rules) (λ j. search rules) (λ j. search rules) in
+    by_reading through (c.tally.ensures c.args.desk.now)

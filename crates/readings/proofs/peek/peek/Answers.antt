@@ -1,48 +1,19 @@
-use mathlib.Core.Path.{refl, sym, ◌∙◌}
-use Prim.Native.Nat.{◌<◌}
-use native.Mathlib.Omega.{arith}
-use Rattle.running.proofs.Scan.{scan_runs}
-use Rattle.readings.proofs.Peeks.{below_table, below_shelf, peeks-table, lies_table, peeks-shelf, lies_shelf, peeks_nothing, peeks-none}
-use borrow.Author.Tests.{ltb-true, ltb-false}
+use Rattle.std.proofs.Common.{rules}
+use Rattle.readings.proofs.Peeks.{peeks_table, lies_table, peeks_shelf, lies_shelf}
 use Rattle.readings.proofs.peek.peek.Goals as goal
 
-pub found_at-found-requires : goal.found_at-found-requires
-found_at-found-requires c =
-    let low : c.scan_of-p.result.0 < 64 = ltb-true c.scan_of-p.result.0 64 (sym c.below.ensures ∙ c.if-below.true) in
+pub returns-in-Some-InTable : goal.returns-in-Some-InTable
+returns-in-Some-InTable c =
     let args = c.args in
-    (c.requires, scan_runs args.desk.now args.table.now args.shelf.now args.ticket.0 c.scan_of-p.ensures low)
+    let f = c.in-Some.ensures in
+    let found = rw c.in-Some-InTable.field-0-is at c.in-Some-InTable.ensures in
+    let part = c.version.ensures in
+    (peeks_table args.desk.now args.table.now args.shelf.now args.ticket.0 c.requires.2 f.0 f.1 part.0 found (λ j. search rules), λ n. lies_table args.desk.now args.table.now args.shelf.now args.ticket.0 c.requires.2 f.0 f.1 part.1 found)
 
-pub version-requires : goal.version-requires
-version-requires c =
+pub returns-in-Some-OnShelf : goal.returns-in-Some-OnShelf
+returns-in-Some-OnShelf c =
     let args = c.args in
-    below_table args.desk.now args.table.now args.shelf.now args.ticket.0 c.scan_of-p.ensures c.found_at-found.ensures c.in-InTable.is
-
-pub returns-in-InTable : goal.returns-in-InTable
-returns-in-InTable c =
-    let low : c.scan_of-p.result.0 < 64 = ltb-true c.scan_of-p.result.0 64 (sym c.below.ensures ∙ c.if-below.true) in
-    let args = c.args in
-    let here = c.in-InTable.is in
-    (peeks-table args.desk.now args.table.now args.shelf.now args.ticket.0 c.scan_of-p.ensures c.found_at-found.ensures c.requires.2 low here (λ i. omega (arith, c.shared_slice_known-2-1.given i)) c.version.ensures.0, λ n. lies_table args.desk.now args.table.now args.shelf.now args.ticket.0 c.scan_of-p.ensures c.found_at-found.ensures c.requires.2 low here _ _ _ c.version.ensures.1)
-
-pub version-requires-in-OnShelf : goal.version-requires-in-OnShelf
-version-requires-in-OnShelf c =
-    let args = c.args in
-    below_shelf args.desk.now args.table.now args.shelf.now args.ticket.0 c.scan_of-p.ensures c.found_at-found.ensures c.in-OnShelf.is
-
-pub returns-in-OnShelf : goal.returns-in-OnShelf
-returns-in-OnShelf c =
-    let low : c.scan_of-p.result.0 < 64 = ltb-true c.scan_of-p.result.0 64 (sym c.below.ensures ∙ c.if-below.true) in
-    let args = c.args in
-    let here = c.in-OnShelf.is in
-    (peeks-shelf args.desk.now args.table.now args.shelf.now args.ticket.0 c.scan_of-p.ensures c.found_at-found.ensures c.requires.2 low here (λ i. omega (arith, c.shared_slice_known-3-1.given i)) c.version-in-OnShelf.ensures.0, λ n. lies_shelf args.desk.now args.table.now args.shelf.now args.ticket.0 c.scan_of-p.ensures c.found_at-found.ensures c.requires.2 low here _ _ _ c.version-in-OnShelf.ensures.1)
-
-pub returns-in-Nothing : goal.returns-in-Nothing
-returns-in-Nothing c =
-    let low : c.scan_of-p.result.0 < 64 = ltb-true c.scan_of-p.result.0 64 (sym c.below.ensures ∙ c.if-below.true) in
-    let args = c.args in
-    (peeks_nothing args.desk.now args.table.now args.shelf.now args.ticket.0 c.scan_of-p.ensures c.found_at-found.ensures c.requires.2 low c.in-Nothing.is, λ n. absurd (n refl))
-
-pub returns : goal.returns
-returns c =
-    let args = c.args in
-    (peeks-none args.desk.now args.table.now args.shelf.now args.ticket.0 c.scan_of-p.ensures (ltb-false c.scan_of-p.result.0 64 (sym c.below.ensures ∙ c.if-below.false)), λ n. absurd (n refl))
+    let f = c.in-Some.ensures in
+    let found = rw c.in-Some-OnShelf.field-0-is at c.in-Some-OnShelf.ensures in
+    let part = c.version-in-Some-OnShelf.ensures in
+    (peeks_shelf args.desk.now args.table.now args.shelf.now args.ticket.0 c.requires.2 f.0 f.1 part.0 found (λ j. search rules), λ n. lies_shelf args.desk.now args.table.now args.shelf.now args.ticket.0 c.requires.2 f.0 f.1 part.1 found)
