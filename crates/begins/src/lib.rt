@@ -26,18 +26,15 @@ fn give_ticket(desk: &mut Desk, last: Ticket) -> Ticket
 
 // The scan of a ticket takes position p, at place 0.
 fn seat(desk: &mut Desk, ticket: Ticket, p: Position, m: Masks)
-    requires { p.0 < 64 }
-    ensures { desk.new ≡ put (put desk.old 16 (masks_bytes (begun_masks (held m) p.0))) (64 + p.0 * 16) (card_bytes (card ticket.0 0 0 0)) }
+    ensures { desk.new ≡ put (put desk.old 16 (masks_bytes (begun_masks (held m) p))) (64 + p * 16) (card_bytes (card ticket.0 0 0 0)) }
 {
-    desk::write::put_masks(desk, m.begun(p));
-    desk::write::put_card(
+    desk::write::put_scan(
         desk,
         p,
+        m.begun(p),
         Card {
             ticket,
-            place: 0,
-            handed: 0,
-            rest: 0,
+            ..Card::default()
         },
     );
 }

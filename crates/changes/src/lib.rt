@@ -47,14 +47,11 @@ pub fn modify(
         return Err(Refusal::NotThere);
     };
     let masks = desk::masks_at(desk);
-    match shelving::keep(masks, table, shelf, there)? {
-        Kept::Unawaited => {
-            slots::write::put_body(table, there, body);
-        }
-        Kept::Shelved => {
-            slots::write::put_body(table, there, body);
-            slots::write::put_mask(table, there, masks.new_status());
-        }
+    let kept = shelving::keep(masks, table, shelf, there)?;
+    slots::write::put_body(table, there, body);
+    match kept {
+        Kept::Unawaited => {}
+        Kept::Shelved => slots::write::put_mask(table, there, masks.new_status()),
     }
     Ok(())
 }

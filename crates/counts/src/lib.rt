@@ -23,18 +23,18 @@ pub fn used(slots: &[u8]) -> u32
 }
 
 // Whether the scan awaits the version in slot i.
-fn waits(slots: &[u8], i: usize, scan: Awaiting) -> bool
-    requires { (i < length slots.now / 64) × (scan.position.0 < 64) }
-    ensures { result ≡ waiting_in scan.flip scan.position.0 (slot_at slots.now i) }
+fn waits(slots: &[u8], i: usize, scan: &Awaiting) -> bool
+    requires { i < length slots.now / 64 }
+    ensures { result ≡ waiting_in scan.now.flip scan.now.position (slot_at slots.now i) }
 {
     let here = SlotNumber(i);
     slots::in_use(slots, here) & scan.awaits(slots::mask_at(slots, here))
 }
 
 // The versions in the four slots from i on that the scan awaits.
-fn waiting_of_four(slots: &[u8], i: usize, scan: Awaiting) -> u32
-    requires { (i + 4 ≤ length slots.now / 64) × (scan.position.0 < 64) }
-    ensures { (result ≤ 4) × Counted scan.flip scan.position.0 slots.now i (i + 4) result }
+fn waiting_of_four(slots: &[u8], i: usize, scan: &Awaiting) -> u32
+    requires { i + 4 ≤ length slots.now / 64 }
+    ensures { (result ≤ 4) × Counted scan.now.flip scan.now.position slots.now i (i + 4) result }
 {
     u32::from(waits(slots, i, scan))
         + u32::from(waits(slots, i + 1, scan))
@@ -50,9 +50,9 @@ struct Run {
 }
 
 // Past the blocks of four slots in use from `from` on, with the versions there that the scan awaits.
-fn run_in_use(slots: &[u8], from: usize, scan: Awaiting) -> Run
-    requires { (from ≤ length slots.now / 64) × (length slots.now / 64 < 4294967296) × (scan.position.0 < 64) }
-    ensures { (from + result.waiting ≤ result.next) × (result.next ≤ length slots.now / 64) × Counted scan.flip scan.position.0 slots.now from result.next result.waiting }
+fn run_in_use(slots: &[u8], from: usize, scan: &Awaiting) -> Run
+    requires { (from ≤ length slots.now / 64) × (length slots.now / 64 < 4294967296) }
+    ensures { (from + result.waiting ≤ result.next) × (result.next ≤ length slots.now / 64) × Counted scan.now.flip scan.now.position slots.now from result.next result.waiting }
 {
     let blocks = (slots::slot_count(slots) - from) / 4;
     let mut n: u32 = 0;
@@ -79,15 +79,16 @@ fn run_in_use(slots: &[u8], from: usize, scan: Awaiting) -> Run
 
 // The versions that the scan awaits.
 pub fn waiting(slots: &[u8], scan: Awaiting) -> u32
-    requires { (length slots.now / 64 < 4294967296) × (scan.position.0 < 64) }
-    ensures { result ≡ count (waiting_in scan.flip scan.position.0) (slots_of slots.now) }
+    requires { length slots.now / 64 < 4294967296 }
+    ensures { result ≡ count (waiting_in scan.flip scan.position) (slots_of slots.now) }
 {
     let end = slots::slot_count(slots);
     let mut n: u32 = 0;
     let mut i: usize = 0;
-    // No range gives the next slot: it is where a run of full or of empty blocks ends.
+    // The next slot is where a run of full or of empty blocks ends. Over a range, slot by slot, tried: 3.4 times the instructions on a
+    // shelf that is mostly empty.
     loop {
-        let run = run_in_use(slots, i, scan);
+        let run = run_in_use(slots, i, &scan);
         n += run.waiting;
         i = run.next;
         if i + 4 > end {
@@ -98,11 +99,11 @@ pub fn waiting(slots: &[u8], scan: Awaiting) -> u32
             i = next;
             continue;
         }
-        n += waiting_of_four(slots, i, scan);
+        n += waiting_of_four(slots, i, &scan);
         i += 4;
     }
     for last in i..end {
-        n += u32::from(waits(slots, last, scan));
+        n += u32::from(waits(slots, last, &scan));
     }
     n
 }

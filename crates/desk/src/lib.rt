@@ -15,15 +15,13 @@ pub mod write;
 
 // Where the card of position p starts.
 fn start(p: Position) -> usize
-    requires { p.0 < 64 }
-    ensures { result ≡ 64 + p.0 * 16 }
+    ensures { (result ≡ 64 + p * 16) × (p < 64) }
 {
     64 + u32::from(p) as usize * 16
 }
 
 pub fn card_at(desk: &Desk, p: Position) -> Card
-    requires { p.0 < 64 }
-    ensures { result ≡ card_at desk.now p.0 }
+    ensures { result ≡ card_at desk.now p }
 {
     let at = start(p);
     Card {
@@ -36,8 +34,7 @@ pub fn card_at(desk: &Desk, p: Position) -> Card
 
 // The ticket on the card of position p.
 pub fn ticket_at(desk: &Desk, p: Position) -> Ticket
-    requires { p.0 < 64 }
-    ensures { result.0 ≡ ticket_at desk.now p.0 }
+    ensures { result.0 ≡ ticket_at desk.now p }
 {
     Ticket(u32::at(desk, start(p)))
 }

@@ -33,7 +33,15 @@ pub fn put_last_ticket(desk: &mut Desk, ticket: Ticket)
     u32::from(ticket).put_at(desk, 12);
 }
 
-pub fn put_masks(desk: &mut Desk, m: Masks)
+// The masks and the card of position p.
+pub fn put_scan(desk: &mut Desk, p: Position, m: Masks, c: Card)
+    ensures { (p < 64) × (desk.new ≡ put (put desk.old 16 (masks_bytes (held m))) (64 + p * 16) (card_bytes c)) }
+{
+    put_masks(desk, m);
+    put_card(desk, p, c);
+}
+
+fn put_masks(desk: &mut Desk, m: Masks)
     ensures { desk.new ≡ put desk.old 16 (masks_bytes (held m)) }
 {
     m.stable.put_at(desk, 16);
@@ -41,9 +49,8 @@ pub fn put_masks(desk: &mut Desk, m: Masks)
     m.local.put_at(desk, 32);
 }
 
-pub fn put_card(desk: &mut Desk, p: Position, c: Card)
-    requires { p.0 < 64 }
-    ensures { desk.new ≡ put desk.old (64 + p.0 * 16) (card_bytes c) }
+fn put_card(desk: &mut Desk, p: Position, c: Card)
+    ensures { (p < 64) × (desk.new ≡ put desk.old (64 + p * 16) (card_bytes c)) }
 {
     let at = start(p);
     u32::from(c.ticket).put_at(desk, at);

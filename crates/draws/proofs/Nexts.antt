@@ -53,7 +53,7 @@ module _ (d t s : List ℕ) (b : ℕ) (o : List ℕ) (ready : Ready d t s) {p : 
 
     pub can_hand_out : CanHandOut d t s p c m w.looks
     can_hand_out =
-        (below, ec, em, record_fits (hit_in m.stable p (slots_of t) (slots_of s)) c.place b (length t / 64 + length s / 64) ew seen, omega (arith, ready.1), record_some (hit_in m.stable p (slots_of t) (slots_of s)) c.place b (length t / 64 + length s / 64) ew seen, omega (arith, fits, scan_handed d t s ready.2 runs ec, ready.1))
+        (ec, em, record_fits (hit_in m.stable p (slots_of t) (slots_of s)) c.place b (length t / 64 + length s / 64) ew seen, omega (arith, ready.1), record_some (hit_in m.stable p (slots_of t) (slots_of s)) c.place b (length t / 64 + length s / 64) ew seen, omega (arith, fits, scan_handed d t s ready.2 runs ec, ready.1))
 
     pub nexts_record : (d' t' s' : List ℕ) {o' : List ℕ}
         → (store_of d' t' s' ≡ took (store_of d t s) p (c.place + w.looks - 1)) × (o' ≡ version (here (store_of d t s) (c.place + w.looks - 1)))
@@ -73,7 +73,7 @@ module _ (d t s : List ℕ) (b : ℕ) (o : List ℕ) (ready : Ready d t s) {p : 
     spent = spent_says (hit_in m.stable p (slots_of t) (slots_of s)) c.place b (length t / 64 + length s / 64) ew seen
 
     pub can_move_on : CanGoOn d p c m (c.place + w.looks)
-    can_move_on = (below, ec, em, omega (arith, spent_fits (hit_in m.stable p (slots_of t) (slots_of s)) c.place b (length t / 64 + length s / 64) ew seen, ready.1))
+    can_move_on = (ec, em, omega (arith, spent_fits (hit_in m.stable p (slots_of t) (slots_of s)) c.place b (length t / 64 + length s / 64) ew seen, ready.1))
 
     pub nexts_spent : (d' : List ℕ) → store_of d' t s ≡ moved_to (store_of d t s) p (c.place + w.looks) c.handed (slots_of t) (slots_of s)
         → told (Answer.drew (Draw.paused w.looks)) (store_of d' t s) o ≡ walk (store_of d t s) p b 0 o
@@ -92,7 +92,7 @@ module _ (d t s : List ℕ) (b : ℕ) (o : List ℕ) (ready : Ready d t s) {p : 
     ended = end_says (hit_in m.stable p (slots_of t) (slots_of s)) c.place b (length t / 64 + length s / 64) ew seen
 
     pub can_finish : CanGoOn d p c m (c.place + w.looks)
-    can_finish = (below, ec, em, omega (arith, end_at (hit_in m.stable p (slots_of t) (slots_of s)) c.place b (length t / 64 + length s / 64) ew seen fits, ready.1))
+    can_finish = (ec, em, omega (arith, end_at (hit_in m.stable p (slots_of t) (slots_of s)) c.place b (length t / 64 + length s / 64) ew seen fits, ready.1))
 
     pub nexts_end : (d' : List ℕ) → store_of d' t s ≡ finish (moved_to (store_of d t s) p (c.place + w.looks) c.handed (slots_of t) (slots_of s)) p
         → told (Answer.drew (Draw.finished w.looks w.left c.handed)) (store_of d' t s) o ≡ walk (store_of d t s) p b 0 o

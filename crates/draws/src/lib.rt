@@ -41,9 +41,9 @@ fn go_on(
     budget: u32,
     out: &mut Version,
 ) -> Draw
-    requires { Ready desk.old table.old shelf.old × Runs desk.old p.0 }
+    requires { Ready desk.old table.old shelf.old × Runs desk.old p }
     ensures { told (next_tells result) (store_of desk.new table.new shelf.new) out.new
-        ≡ walk (store_of desk.old table.old shelf.old) p.0 budget 0 out.old }
+        ≡ walk (store_of desk.old table.old shelf.old) p budget 0 out.old }
 {
     let card = desk::card_at(desk, p);
     let masks = desk::masks_at(desk);

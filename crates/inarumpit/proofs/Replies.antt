@@ -8,6 +8,8 @@ use native.Mathlib.Omega.{arith}
 use lib.Dec.{leb, eqb}
 use lib.ListN.{length}
 use borrow.Author.Tests.{eqb-true, leb-true}
+use Rattle.std.specs.Prelude.{Result, Ok, Err, IsErrAnd}
+use denote.Ref.{Bor}
 use Rattle.rules.specs.declared.Refusal.{Refusal}
 use Rattle.rules.specs.Answers.{Answer, number_of}
 use Rattle.rules.specs.Memory.{Lent, lent, store_of, read}
@@ -16,7 +18,9 @@ use Rattle.rules.specs.Refusals.{Call, slots_right, lengths_right, own_right, al
 use Rattle.rules.specs.Sound.{sound}
 use Rattle.rules.proofs.Bytes.{Bytes}
 use Rattle.rules.proofs.RoundTrip.{Right, written_read}
-use Rattle.inarumpit.specs.WayIn.{or_zero, way_in}
+use Rattle.running.specs.Scan.{Ready}
+use Rattle.running.specs.declared.store.Store.{Store as Lends}
+use Rattle.inarumpit.specs.WayIn.{or_zero, way_in, LetsInAll}
 use Rattle.joins.proofs.Bools.{and_left, and_right}
 
 -- ---- refused, and on its way
@@ -107,6 +111,19 @@ looked : (looks ok : Bool) → looks && not ok ≡ false → looks ≡ true → 
 looked true true e f = refl
 looked true false e f = absurd (mathlib.Core.Bool.false≢true (sym e))
 looked false ok e f = absurd (mathlib.Core.Bool.false≢true f)
+
+-- it is open: the store is ready
+pub way_ready : (d t s : List ℕ) → 0 ≡ way_in true true d t s → Ready d t s
+unfolding way_in
+way_ready d t s e =
+    let through = passed (lengths_right (length d) (length t) (length s)) (not (sound (store_of d t s))) (sym e) in
+    let z = lengths_say (length d) (length t) (length s) through.0 in
+    (z.desk, omega (arith, z.slots, z.entries), looked true (sound (store_of d t s)) through.1 refl)
+
+-- it is shut
+pub way_shut : (d : List ℕ) (t s : Bor (List ℕ)) (a : Result Lends Refusal) (e : Refusal) → IsErrAnd a (λ x. x ≡ e) → number_of e ≡ way_in true true d t.now s.now → LetsInAll a d t s
+way_shut d t s (Ok x) e h w = absurd h
+way_shut d t s (Err x) e h w = ap number_of h ∙ w
 
 -- a call that was let in: all that it was lent is right, and sound where it looks at the desk
 pub record LetIn (d t s : List ℕ) (c : Call) : Type 0 where

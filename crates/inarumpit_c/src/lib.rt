@@ -1,4 +1,5 @@
-// The static library that a C host links: numbers and byte buffers in, one 64-bit number back, answer + 256 × value.
+// The static library that a C host links: numbers and byte buffers in, one 64-bit number back, answer + 256 × value. The C
+// interface has the eight functions and their parameters.
 #![tactic(auto)]
 
 ghost use Rattle.rules.specs.Promises.{Returns, ReturnsOut, rewritten, kept};

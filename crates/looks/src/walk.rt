@@ -14,7 +14,7 @@ pub enum Seen {
     End,
 }
 
-// A walk's answer, with the looks that it made and the budget left, which every end has.
+// A walk's answer. Looks made and budget left come with each of its ends: document 01's form of what next gives.
 #[derive(Clone, Copy, Debug, PartialEq, Eq)]
 pub struct Walked {
     pub seen: Seen,
@@ -25,14 +25,14 @@ pub struct Walked {
 // Looks from slot `from` on until a version that the scan awaits, the budget spent or the last slot.
 #[tactic(auto, using(crate::proofs::Walked::one_on, crate::proofs::Walked::unawaited, crate::proofs::Walked::waits_here, crate::proofs::Walked::walked_hit, crate::proofs::Walked::walked_spent))]
 pub fn walk(slots: &[u8], from: SlotNumber, budget: u32, scan: Awaiting) -> Walked
-    requires { (from.0 ≤ length slots.now / 64) × (length slots.now / 64 < 4294967296) × (scan.position.0 < 64) }
-    ensures { result ≡ walked_of (waits_in scan.flip scan.position.0 (slots_of slots.now)) from.0 budget (length slots.now / 64) }
+    requires { (from.0 ≤ length slots.now / 64) × (length slots.now / 64 < 4294967296) }
+    ensures { result ≡ walked_of (waits_in scan.flip scan.position (slots_of slots.now)) from.0 budget (length slots.now / 64) }
 {
     let end = slots::slot_count(slots);
     let start = usize::from(from);
     let stop = (start + budget as usize).min(end);
     let mut i = start;
-    // No range gives the next look: it is where a run of empty blocks ends.
+    // Document 01's form: one loop over slots that yields its answer by break. The next look is where a run of empty blocks ends.
     loop {
         if i >= stop {
             if stop < end {
@@ -77,8 +77,8 @@ pub fn seek(
     place: usize,
     budget: u32,
 ) -> Walked
-    requires { (place ≤ length table.now / 64 + length shelf.now / 64) × (length table.now / 64 + length shelf.now / 64 < 4294967296) × (p.0 < 64) }
-    ensures { result ≡ sought_of stable p.0 table.now shelf.now place budget }
+    requires { (place ≤ length table.now / 64 + length shelf.now / 64) × (length table.now / 64 + length shelf.now / 64 < 4294967296) }
+    ensures { result ≡ sought_of stable p table.now shelf.now place budget }
 {
     let slots = slots::slot_count(table);
     let on_shelf = Awaiting::on_shelf(p);

@@ -1,7 +1,7 @@
 // The three masks of the desk, by value: each move of document 000, section III-A, hands them back.
 #![tactic(auto)]
 
-ghost use Rattle.std.specs.Prelude.{◌≡◌, ◌<◌, bit_xor};
+ghost use Rattle.std.specs.Prelude.{◌≡◌, bit_xor};
 ghost use Rattle.rules.specs.Masks.{fresh as fresh_masks, walk_begun as begun_masks, walk_ended, ended as ended_masks, new_status, m_of, on, off, scan_mask};
 ghost use Rattle.masks.specs.Held.{held};
 
@@ -30,8 +30,7 @@ impl Masks {
 
     // A scan takes position p: its bit is cleared in both active masks.
     pub fn begun(self, p: Position) -> Self
-        requires { p.0 < 64 }
-        ensures { held result ≡ begun_masks (held self) p.0 }
+        ensures { held result ≡ begun_masks (held self) p }
     {
         let others = !scan_mask(p);
         Self {
@@ -43,8 +42,7 @@ impl Masks {
 
     // The table walk of the scan at p ends: the stable bit turns, the local active bit becomes 1, the active bit stays 0.
     pub fn walk_ended(self, p: Position) -> Self
-        requires { p.0 < 64 }
-        ensures { held result ≡ walk_ended (held self) p.0 }
+        ensures { held result ≡ walk_ended (held self) p }
     {
         let own = scan_mask(p);
         Self {
@@ -56,8 +54,7 @@ impl Masks {
 
     // The scan at p is finished: its position is free again.
     pub fn ended(self, p: Position) -> Self
-        requires { p.0 < 64 }
-        ensures { held result ≡ ended_masks (held self) p.0 }
+        ensures { held result ≡ ended_masks (held self) p }
     {
         let own = scan_mask(p);
         Self {
@@ -91,7 +88,7 @@ pub struct Awaiting {
 
 impl Awaiting {
     pub fn in_table(stable: u64, p: Position) -> Self
-        ensures { (result.flip ≡ stable) × (result.position.0 ≡ p.0) }
+        ensures { (result.flip ≡ stable) × (result.position ≡ p) }
     {
         Self {
             flip: stable,
@@ -100,7 +97,7 @@ impl Awaiting {
     }
 
     pub fn on_shelf(p: Position) -> Self
-        ensures { (result.flip ≡ 0) × (result.position.0 ≡ p.0) }
+        ensures { (result.flip ≡ 0) × (result.position ≡ p) }
     {
         Self {
             flip: 0,
@@ -110,9 +107,8 @@ impl Awaiting {
 
     // Whether it awaits the version with this mask.
     #[tactic(auto, using(rules::proofs::Bits::not_on))]
-    pub fn awaits(self, mask: u64) -> bool
-        requires { self.position.0 < 64 }
-        ensures { result ≡ off (bit_xor self.flip mask) self.position.0 }
+    pub fn awaits(&self, mask: u64) -> bool
+        ensures { result ≡ off (bit_xor self.now.flip mask) self.now.position }
     {
         !has_bit(self.flip ^ mask, self.position)
     }
@@ -120,15 +116,13 @@ impl Awaiting {
 
 // The bit of a position and no other.
 pub fn scan_mask(p: Position) -> u64
-    requires { p.0 < 64 }
-    ensures { result ≡ scan_mask p.0 }
+    ensures { result ≡ scan_mask p }
 {
     1u64 << u32::from(p)
 }
 
 pub fn has_bit(x: u64, p: Position) -> bool
-    requires { p.0 < 64 }
-    ensures { result ≡ on x p.0 }
+    ensures { result ≡ on x p }
 {
     (x >> u32::from(p)) % 2 == 1
 }

@@ -6,7 +6,7 @@ ghost use Rattle.numbers.specs.Busy.{busy_holds};
 use rules::{Card, Ticket};
 
 // What a desk holds its cards to: the last ticket given, T and R, whose sum is a number of 32 bits.
-#[derive(Clone, Copy)]
+#[derive(Clone, Copy, Debug, PartialEq, Eq)]
 pub struct Limits {
     pub last: Ticket,
     pub slots: usize,

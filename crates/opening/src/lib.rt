@@ -13,7 +13,7 @@ pub fn open(desk: &mut Desk, table: &mut [u8], shelf: &mut [u8], n: u32) -> Chan
     ensures { Tells (change_says result) (rewritten desk.old desk.new) (rewritten table.old table.new)
         (rewritten shelf.old shelf.new) (Call.opening n) }
 {
-    let is_n = (1 <= n) & (n <= 64);
+    let is_n = (1..=64).contains(&n);
     if !is_n {
         return Err(Refusal::BadNumber);
     }

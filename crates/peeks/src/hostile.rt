@@ -15,6 +15,7 @@ fn spoil_one(dice: &mut Dice, bytes: &mut [u8])
 // A byte of the masks, of the first four cards, or any of the desk; one of the table, and one of the shelf.
 pub fn spoil(dice: &mut Dice, store: &mut Store) {
     let desk = &mut store.desk[..];
+    // The number rolled is the choice itself: no enum stands between.
     match dice.roll(4) {
         0 => spoil_one(dice, desk),
         1 => spoil_one(dice, &mut desk[16..40]),

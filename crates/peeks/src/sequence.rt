@@ -26,6 +26,7 @@ fn hostile_peek_then_next(dice: &mut Dice, store: &mut Store) -> Compared {
 
 // One call, before a next its peek compared.
 fn one(dice: &mut Dice, store: &mut Store) -> Option<Compared> {
+    // The number rolled is the choice itself, with its odds: no enum stands between.
     match dice.roll(16) {
         0..=4 => Some(peek_then_next(dice, store)),
         5 => Some(hostile_peek_then_next(dice, store)),

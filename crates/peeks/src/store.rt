@@ -5,7 +5,8 @@ use crate::dice::Dice;
 use inarumpit::calls;
 use rules::{Body, Desk, NextAnswer, RecordNumber, Ticket, Version};
 
-#[derive(Clone, Copy)]
+// Lengths and no slices: a store's size is rolled, and less is lent of buffers that have all their bytes.
+#[derive(Clone, Copy, Debug, PartialEq, Eq)]
 pub struct Store {
     pub desk: Desk,
     pub table: [u8; 512],

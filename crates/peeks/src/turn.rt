@@ -37,6 +37,7 @@ pub fn next(dice: &mut Dice, store: &mut Store, ticket: Ticket) {
 // Insert, modify, delete or begin.
 pub fn other(dice: &mut Dice, store: &mut Store) {
     let number = RecordNumber(dice.roll(10));
+    // The number rolled is the choice itself, with its odds: no enum stands between.
     match dice.roll(10) {
         0..=4 => store.insert(number, &body(dice)),
         5 | 6 => store.modify(number, &body(dice)),

@@ -21,8 +21,11 @@ pub fn position_of(desk: &Desk, ticket: Ticket) -> Option<Position>
         return None;
     }
     let n = desk::counts(desk).n as usize;
-    let bears = |i: usize| desk::ticket_at(desk, Position(i as u32)) == ticket;
-    fours::lowest(0, n, bears).map(|i| Position(i as u32))
+    let position = |i: usize|
+        requires { i < 64 }
+    { Position(i as u32) };
+    let bears = |i: usize| desk::ticket_at(desk, position(i)) == ticket;
+    fours::lowest(0, n, bears).map(position)
 }
 
 // The lowest position below N with active bit 1.

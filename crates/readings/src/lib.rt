@@ -1,39 +1,37 @@
-// The calls that read only, on a sound desk and buffers of right lengths: peek, tally and owed.
+// The calls that read only, of a store whose way in is open: peek, tally and owed.
 #![tactic(auto)]
 
-ghost use Rattle.std.specs.Prelude.{◌≡◌, ◌/◌, ◌<◌, length};
 ghost use Rattle.rules.specs.Answers.{tally_tells, owed_says};
 ghost use Rattle.rules.specs.Promises.{Tells, TellsUnderAnyDesk, kept};
 ghost use Rattle.rules.specs.Refusals.{Call, Reading};
-ghost use Rattle.running.specs.Scan.{Ready};
 
 use masks::Awaiting;
-use rules::{Desk, Owed, OwedAnswer, Refusal, Tally, Ticket};
+use rules::{Owed, OwedAnswer, Refusal, Tally, Ticket};
+use running::store::Store;
 
 pub mod peek;
 
 #[tactic(auto, using(crate::proofs::Owes::tallies))]
-pub fn tally(table: &[u8], shelf: &[u8]) -> Tally
-    requires { (length table.now / 64 < 4294967296) × (length shelf.now / 64 < 4294967296) }
-    ensures { TellsUnderAnyDesk (tally_tells result) (kept table.now) (kept shelf.now) (Call.reading Reading.tally) }
+pub fn tally(store: &Store) -> Tally
+    ensures { TellsUnderAnyDesk (tally_tells result) (kept store.now.table.now) (kept store.now.shelf.now)
+        (Call.reading Reading.tally) }
 {
     Tally {
-        records: counts::used(table),
-        entries: counts::used(shelf),
+        records: counts::used(store.table),
+        entries: counts::used(store.shelf),
     }
 }
 
 #[tactic(auto, using(crate::proofs::Owes::owes_none, crate::proofs::Owes::owes, crate::proofs::Owes::owed_fits), unfolding(rules::specs::Answers::says, rules::specs::Answers::number_of))]
-pub fn owed(desk: &Desk, table: &[u8], shelf: &[u8], ticket: Ticket) -> OwedAnswer
-    requires { Ready desk.now table.now shelf.now }
-    ensures { Tells (owed_says result) (kept desk.now) (kept table.now) (kept shelf.now)
-        (Call.reading (Reading.owed ticket.0)) }
+pub fn owed(store: &Store, ticket: Ticket) -> OwedAnswer
+    ensures { Tells (owed_says result) (kept store.now.desk.now) (kept store.now.table.now)
+        (kept store.now.shelf.now) (Call.reading (Reading.owed ticket.0)) }
 {
-    let Some(p) = running::scan_of(desk, ticket) else {
+    let Some(p) = running::scan_of(store.desk, ticket) else {
         return Err(Refusal::NoScan);
     };
-    let stable = desk::masks_at(desk).stable;
-    let records = counts::waiting(table, Awaiting::in_table(stable, p));
-    let entries = counts::waiting(shelf, Awaiting::on_shelf(p));
+    let stable = desk::masks_at(store.desk).stable;
+    let records = counts::waiting(store.table, Awaiting::in_table(stable, p));
+    let entries = counts::waiting(store.shelf, Awaiting::on_shelf(p));
     Ok(Owed(records + entries))
 }

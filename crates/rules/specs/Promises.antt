@@ -55,7 +55,7 @@ Tells a d t s c = told a (stands d t s) [] ≡ step (stood d t s) c
 abbrev pub TellsOut : Answer → Buffer → Buffer → Buffer → Buffer → Call → Type 0
 TellsOut a d t s o c = told a (stands d t s) o.exit ≡ step (stood d t s) c
 
--- the same of a call that is not lent the shelf, neither table nor shelf, or not the desk: whatever stands there
+-- the same of a call that has no look at the shelf, at neither table nor shelf, or not at the desk: whatever stands there
 abbrev pub TellsOverAnyShelf : Answer → Buffer → Buffer → Call → Type 0
 TellsOverAnyShelf a d t c = (s : List ℕ) → told a (store_of d.exit t.exit s) [] ≡ step (store_of d.entry t.entry s) c
 

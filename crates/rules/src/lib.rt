@@ -6,6 +6,8 @@ ghost use Rattle.std.specs.Prelude.{◌≡◌, ◌+◌, ◌<◌};
 ghost use Rattle.rules.specs.Answers.{number_of};
 ghost use Rattle.rules.specs.Kinds.{KindOf};
 
+use std::marker::Model;
+
 // The desk, the body of a record, and what is handed out of one: its number and its body.
 pub type Desk = [u8; 1088];
 
@@ -25,11 +27,23 @@ impl RecordNumber {
 #[derive(Clone, Copy, Debug, PartialEq, Eq)]
 pub struct SlotNumber(pub usize);
 
-// That a position is below 64 stands in the clauses: document 01 has a tuple struct here, and a tuple struct has no ghost field.
+// A position. It is below 64: whoever makes one shows it, and whoever takes its number has it.
 #[derive(Clone, Copy, Debug, PartialEq, Eq)]
 pub struct Position(pub u32);
 
-#[derive(Clone, Copy, Debug, PartialEq, Eq, PartialOrd, Ord)]
+impl Model for Position {
+    ghost use Rattle.std.specs.Prelude.{ℕ, ◌<◌};
+
+    ghost Value = { ℕ };
+
+    ghost view = { λ p. p.0 };
+
+    ghost invariant = { λ p. p.0 < 64 };
+
+    ghost inverse = { λ n. record { 0 = n } };
+}
+
+#[derive(Clone, Copy, Debug, Default, PartialEq, Eq, PartialOrd, Ord)]
 pub struct Ticket(pub u32);
 
 impl Ticket {
@@ -65,7 +79,7 @@ impl From<Ticket> for u32 {
 }
 
 impl From<Position> for u32 {
-    ghost from_gives = { λ p n. n ≡ p.0 };
+    ghost from_gives = { λ p n. (n ≡ p) × (n < 64) };
 
     fn from(p: Position) -> u32 {
         p.0
@@ -88,8 +102,8 @@ pub struct Counts {
     pub r: u32,
 }
 
-// The card of a position: ticket 0 means no scan.
-#[derive(Clone, Copy, Debug, PartialEq, Eq)]
+// The card of a position: ticket 0 means no scan. The default is that of a position without one.
+#[derive(Clone, Copy, Debug, Default, PartialEq, Eq)]
 pub struct Card {
     pub ticket: Ticket,
     pub place: u32,

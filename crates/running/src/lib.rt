@@ -8,6 +8,8 @@ ghost use Rattle.running.specs.Scan.{ReadyDesk, scan_of};
 
 use rules::{Desk, Position, Ticket};
 
+pub mod store;
+
 // The position of the scan of a ticket; none where the ticket is 0 or on no card.
 pub fn scan_of(desk: &Desk, ticket: Ticket) -> Option<Position>
     requires { ReadyDesk desk.now }

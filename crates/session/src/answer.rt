@@ -3,62 +3,57 @@ use rules::{Draw, Owed, Refusal, Tally, Ticket};
 use std::fmt;
 use std::fmt::Display;
 
-#[derive(Clone, Copy)]
+#[derive(Clone, Copy, Debug, PartialEq, Eq)]
 pub struct Answer<T>(pub Result<T, Refusal>);
 
-fn refused<W: fmt::Write>(f: &mut fmt::Formatter<W>, refusal: Refusal) -> fmt::Result {
-    write!(f, "{}", u8::from(refusal))
-}
-
-impl Display for Answer<()> {
+impl<T: Told> Display for Answer<T> {
     fn fmt<W: fmt::Write>(&self, f: &mut fmt::Formatter<W>) -> fmt::Result {
-        match self.0 {
-            Ok(()) => write!(f, "0"),
-            Err(refusal) => refused(f, refusal),
+        match &self.0 {
+            Ok(value) => value.tell(f),
+            Err(refusal) => write!(f, "{}", u8::from(*refusal)),
         }
     }
 }
 
-impl Display for Answer<Ticket> {
-    fn fmt<W: fmt::Write>(&self, f: &mut fmt::Formatter<W>) -> fmt::Result {
-        match self.0 {
-            Ok(ticket) => write!(f, "0, ticket {}", u32::from(ticket)),
-            Err(refusal) => refused(f, refusal),
+// What a call gives that is not refused.
+pub trait Told {
+    fn tell<W: fmt::Write>(&self, f: &mut fmt::Formatter<W>) -> fmt::Result;
+}
+
+impl Told for () {
+    fn tell<W: fmt::Write>(&self, f: &mut fmt::Formatter<W>) -> fmt::Result {
+        write!(f, "0")
+    }
+}
+
+impl Told for Ticket {
+    fn tell<W: fmt::Write>(&self, f: &mut fmt::Formatter<W>) -> fmt::Result {
+        write!(f, "0, ticket {}", u32::from(*self))
+    }
+}
+
+impl Told for Draw {
+    fn tell<W: fmt::Write>(&self, f: &mut fmt::Formatter<W>) -> fmt::Result {
+        match self {
+            Draw::InHand { looks, left } => write!(f, "0, looks {looks}, left {left}"),
+            Draw::Paused { looks } => write!(f, "100, looks {looks}"),
+            Draw::Finished {
+                looks,
+                left,
+                handed,
+            } => write!(f, "101, looks {looks}, left {left}, handed {handed}"),
         }
     }
 }
 
-impl Display for Answer<Draw> {
-    fn fmt<W: fmt::Write>(&self, f: &mut fmt::Formatter<W>) -> fmt::Result {
-        match self.0 {
-            Ok(Draw::InHand { looks, left }) => write!(f, "0, looks {looks}, left {left}"),
-            Ok(Draw::Paused { looks }) => write!(f, "100, looks {looks}"),
-            Ok(
-                Draw::Finished {
-                    looks,
-                    left,
-                    handed,
-                },
-            ) => write!(f, "101, looks {looks}, left {left}, handed {handed}"),
-            Err(refusal) => refused(f, refusal),
-        }
+impl Told for Tally {
+    fn tell<W: fmt::Write>(&self, f: &mut fmt::Formatter<W>) -> fmt::Result {
+        write!(f, "0, records {}, entries {}", self.records, self.entries)
     }
 }
 
-impl Display for Answer<Tally> {
-    fn fmt<W: fmt::Write>(&self, f: &mut fmt::Formatter<W>) -> fmt::Result {
-        match self.0 {
-            Ok(Tally { records, entries }) => write!(f, "0, records {records}, entries {entries}"),
-            Err(refusal) => refused(f, refusal),
-        }
-    }
-}
-
-impl Display for Answer<Owed> {
-    fn fmt<W: fmt::Write>(&self, f: &mut fmt::Formatter<W>) -> fmt::Result {
-        match self.0 {
-            Ok(Owed(records)) => write!(f, "0, owing {records}"),
-            Err(refusal) => refused(f, refusal),
-        }
+impl Told for Owed {
+    fn tell<W: fmt::Write>(&self, f: &mut fmt::Formatter<W>) -> fmt::Result {
+        write!(f, "0, owing {}", self.0)
     }
 }

@@ -1,6 +1,7 @@
 // The words of a script's line, with one blank between them.
 
-// The word after so many blanks: the number of its digits, or its last letter; 0 where there is none.
+// The word after so many blanks: the number of its digits, or its last letter.
+// 0 where there is none, and no Option: a script leaves out words that do not matter, as the body of a refused insert.
 pub fn word(line: &[u8], blanks: usize) -> u32 {
     let word = line.split(|c| *c == b' ').nth(blanks).unwrap_or(b"");
     word.iter().fold(0, |x, c| with(x, *c))

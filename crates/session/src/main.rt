@@ -22,7 +22,10 @@ fn play(rt: &impl Print, script: &[u8]) -> io::Result<()> {
     let mut store = Store::new();
     for line in script.split_inclusive(|b| *b == b'\n') {
         let line = line.strip_suffix(b"\n").unwrap_or(line);
-        store.run(rt, Step::parse(line))?;
+        match Step::parse(line) {
+            Some(step) => store.run(rt, step)?,
+            None => println!(rt; "no such step")?,
+        }
     }
     Ok(())
 }

@@ -3,6 +3,7 @@ use crate::call::Call;
 use crate::line;
 
 // How many bytes of desk, table, shelf, body and hand-out buffer are lent.
+// Lengths and no slices: a script lends now more, now less of buffers that keep all their bytes.
 #[derive(Clone, Copy, Debug, Default, PartialEq, Eq)]
 pub struct Lengths {
     pub desk: usize,
@@ -21,12 +22,11 @@ pub enum Step<'a> {
     Show,
     Write(&'a [u8]),
     Call(Call),
-    Unknown,
 }
 
 impl<'a> Step<'a> {
-    pub fn parse(line: &'a [u8]) -> Self {
-        match line {
+    pub fn parse(line: &'a [u8]) -> Option<Self> {
+        let step = match line {
             [b'a', ..] => Step::Alter {
                 at: line::length(line, 1),
                 byte: line::byte(line, 2),
@@ -49,10 +49,8 @@ impl<'a> Step<'a> {
             },
             [b's', ..] => Step::Show,
             [b'w', ..] => Step::Write(line.get(6..).unwrap_or(b"")),
-            _ => match Call::parse(line) {
-                Some(call) => Step::Call(call),
-                None => Step::Unknown,
-            },
-        }
+            _ => Step::Call(Call::parse(line)?),
+        };
+        Some(step)
     }
 }

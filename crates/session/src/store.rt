@@ -7,7 +7,7 @@ use std::io;
 
 mod told;
 
-#[derive(Clone, Copy)]
+#[derive(Clone, Copy, Debug, PartialEq, Eq)]
 pub struct Store {
     desk: Desk,
     table: [u8; 256],
@@ -43,12 +43,12 @@ impl Store {
                 println!(rt; "C return value {back}")?;
             }
             Step::Show => self.show(rt)?,
+            // Written raw, as the script has it: its bytes need be no text.
             Step::Write(text) => {
                 rt.write_all(text)?;
                 println!(rt; "")?;
             }
             Step::Call(call) => self.call(rt, call)?,
-            Step::Unknown => println!(rt; "no such step")?,
         }
         Ok(())
     }

@@ -10,13 +10,12 @@ use Rattle.joins.specs.Walks.{moved_to, took, here}
 
 -- card and masks are those of the desk for the scan at p, which can go on to place q
 abbrev pub CanGoOn : List ℕ → ℕ → Card → Masks → ℕ → Type 0
-CanGoOn d p c m q = (p < 64) × (c ≡ card_at d p) × (m ≡ masks_of d) × (q < 4294967296)
+CanGoOn d p c m q = (c ≡ card_at d p) × (m ≡ masks_of d) × (q < 4294967296)
 
 -- and its last look, in table or shelf, found what can be handed out
 abbrev pub CanHandOut : List ℕ → List ℕ → List ℕ → ℕ → Card → Masks → ℕ → Type 0
 CanHandOut d t s p c m looks =
-    (p < 64)
-    × (c ≡ card_at d p)
+    (c ≡ card_at d p)
     × (m ≡ masks_of d)
     × (c.place + looks ≤ length t / 64 + length s / 64)
     × (length t / 64 + length s / 64 < 4294967296)

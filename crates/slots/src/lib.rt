@@ -1,6 +1,6 @@
 // The slots of a table or the entries of a shelf: how many there are, and what one of them holds.
-// That slot i is there ties a number to a buffer that is written to besides: it is a clause and no type. std has no mutable slice
-// of 64-byte slots to take its place.
+// That slot i is there ties a number to a buffer that is written to besides, so that it is a clause and no type: of a slice lent as
+// slots of 64 bytes (`as_chunks_mut`) std does not say what it ends as.
 #![tactic(auto)]
 
 ghost use Rattle.std.specs.Prelude.{◌≡◌, ◌+◌, ◌*◌, ◌/◌, ◌<◌, length};

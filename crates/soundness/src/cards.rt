@@ -7,7 +7,7 @@ use masks::Masks;
 use numbers::card::Limits;
 use rules::{Desk, Position};
 
-// The cards of a desk, and what they are held to.
+// The cards of a desk, and what they are held to. Nothing compares or prints them.
 #[derive(Clone, Copy)]
 struct Cards<'a> {
     desk: &'a Desk,
@@ -23,8 +23,7 @@ impl<'a> Cards<'a> {
     // The card of position p.
     #[tactic(auto, using(crate::proofs::CardCases::idle_case, crate::proofs::CardCases::busy_case))]
     fn card_sound(&self, p: Position) -> bool
-        requires { p.0 < 64 }
-        ensures { result ≡ holds self.now p.0 }
+        ensures { result ≡ holds self.now p }
     {
         if masks::has_bit(self.masks.active, p) {
             let word = 8 + u32::from(p) as usize * 2;

@@ -29,13 +29,13 @@ returns-in_default c =
     let f = none.ensures in
     modifies_absent args.desk.now args.table.now args.shelf.now args.k.0 _ refl args.body.now (search rules) c.in_ok-try_from.ensures.1 (omega (arith, f))
 
-pub returns-in_err-keep : goal.returns-in_err-keep
-returns-in_err-keep c =
+pub returns-in_err-kept : goal.returns-in_err-kept
+returns-in_err-kept c =
     let args = c.args in
     let some = c.in-Some in
     let f = some.ensures in
-    rw (refused-on change_tells c.from_residual-in_err-keep.result c.in_err-keep.field-0.0 c.from_residual-in_err-keep.ensures.1)
-    (modifies_room args.desk.now args.table.now args.shelf.now args.k.0 some.there.0 f.0 (omega (arith, f)) c.masks_at-masks.ensures (rw c.in_err-keep.was at c.keep.ensures) args.body.now (search rules) c.in_ok-try_from.ensures.1)
+    rw (refused-on change_tells c.from_residual-in_err-kept.result c.in_err-kept.field-0.0 c.from_residual-in_err-kept.ensures.1)
+    (modifies_room args.desk.now args.table.now args.shelf.now args.k.0 some.there.0 f.0 (omega (arith, f)) c.masks_at-masks.ensures (rw c.in_err-kept.was at c.keep.ensures) args.body.now (search rules) c.in_ok-try_from.ensures.1)
 
 pub returns-in-Unawaited : goal.returns-in-Unawaited
 unfolding says
@@ -43,7 +43,7 @@ returns-in-Unawaited c =
     let args = c.args in
     let some = c.in-Some in
     let f = some.ensures in
-    modifies_unawaited args.desk.now args.table.now args.shelf.now args.k.0 some.there.0 f.0 (omega (arith, f)) c.masks_at-masks.ensures (rw (c.in_ok-keep.was, c.in-Unawaited.is) at c.keep.ensures) args.body.now (search rules) c.in_ok-try_from.ensures.1 (omega arith) c.put_body.ensures
+    modifies_unawaited args.desk.now args.table.now args.shelf.now args.k.0 some.there.0 f.0 (omega (arith, f)) c.masks_at-masks.ensures (rw (c.in_ok-kept.was, c.in-Unawaited.is) at c.keep.ensures) args.body.now (search rules) c.in_ok-try_from.ensures.1 (omega arith) c.put_body.ensures
 
 pub returns-in-Shelved : goal.returns-in-Shelved
 unfolding says
@@ -51,4 +51,4 @@ returns-in-Shelved c =
     let args = c.args in
     let some = c.in-Some in
     let f = some.ensures in
-    modifies_shelved args.desk.now args.table.now args.shelf.now args.k.0 some.there.0 f.0 (omega (arith, f)) c.masks_at-masks.ensures (rw (c.in_ok-keep.was, c.in-Shelved.is) at c.keep.ensures) (omega arith) (λ j. omega arith) (λ j. search rules) args.body.now (search rules) c.in_ok-try_from.ensures.1 (omega arith) c.put_body-in-Shelved.ensures c.new_status.ensures c.put_mask.ensures
+    modifies_shelved args.desk.now args.table.now args.shelf.now args.k.0 some.there.0 f.0 (omega (arith, f)) c.masks_at-masks.ensures (rw (c.in_ok-kept.was, c.in-Shelved.is) at c.keep.ensures) (omega arith) (λ j. omega arith) (λ j. search rules) args.body.now (search rules) c.in_ok-try_from.ensures.1 (omega arith) c.put_body.ensures c.new_status.ensures c.put_mask.ensures

@@ -6,5 +6,5 @@ use Rattle.counts.proofs.waiting_of_four.Goals as goal
 pub returns : goal.returns
 returns c = (
   omega (arith, c.from.ensures, c.from-2.ensures, c.from-3.ensures, c.from-4.ensures, at_most_one c.waits.result, at_most_one c.waits-2.result, at_most_one c.waits-3.result, at_most_one c.waits-4.result),
-  four_counted c.args.slots.now c.args.scan.flip c.args.scan.position.0 c.args.i c.requires.0 c.waits.ensures c.waits-2.ensures c.waits-3.ensures c.waits-4.ensures c.from.ensures c.from-2.ensures c.from-3.ensures c.from-4.ensures,
+  four_counted c.args.slots.now c.args.scan.now.flip c.args.scan.now.position c.args.i c.requires c.waits.ensures c.waits-2.ensures c.waits-3.ensures c.waits-4.ensures c.from.ensures c.from-2.ensures c.from-3.ensures c.from-4.ensures,
 )

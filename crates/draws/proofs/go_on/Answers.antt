@@ -7,7 +7,7 @@ use Rattle.draws.proofs.go_on.Goals as goal
 pub seek-walked-requires : goal.seek-walked-requires
 seek-walked-requires c =
     let args = c.args in
-    (scan_fits args.desk.now args.table.now args.shelf.now c.requires.0.2 c.requires.1 c.card_at-card.ensures, omega (arith, c.requires.0.1), c.requires.1.0)
+    (scan_fits args.desk.now args.table.now args.shelf.now c.requires.0.2 c.requires.1 c.card_at-card.ensures, omega (arith, c.requires.0.1))
 
 pub hand_out-requires : goal.hand_out-requires
 hand_out-requires c =

@@ -4,4 +4,4 @@ use Rattle.masks.proofs.has_bit.Goals as goal
 
 pub returns : goal.returns
 unfolding bit
-returns c = rw c.from.ensures refl
+returns c = rw c.from.ensures.0 refl

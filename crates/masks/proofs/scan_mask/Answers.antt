@@ -7,4 +7,4 @@ use Rattle.masks.proofs.scan_mask.Goals as goal
 pub returns : goal.returns
 unfolding scan_mask
 returns c =
-    rw (c.from.ensures, one-mul (2 ^ c.args.p.0)) (mod-eq_of_lt (pow-lt c.requires))
+    rw (c.from.ensures.0, one-mul (2 ^ c.args.p)) (mod-eq_of_lt (pow-lt (rw c.from.ensures.0 at c.from.ensures.1)))

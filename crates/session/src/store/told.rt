@@ -4,7 +4,7 @@ use crate::answer::Answer;
 use crate::call::Call;
 use crate::show;
 use inarumpit::calls;
-use rules::Draw;
+use rules::{ChangeAnswer, Draw, RecordNumber};
 use std::io;
 
 impl Store {
@@ -24,17 +24,13 @@ impl Store {
             }
             Call::Insert(number, body) => {
                 let body = &body[..lent.body.min(52)];
-                print!(rt; "insert {}", u32::from(number))?;
-                show::given(rt, body)?;
-                let answer = Answer(calls::insert(desk, table, shelf, number, body));
-                println!(rt; ": {answer}")
+                let answer = calls::insert(desk, table, shelf, number, body);
+                changed(rt, "insert", number, body, answer)
             }
             Call::Modify(number, body) => {
                 let body = &body[..lent.body.min(52)];
-                print!(rt; "modify {}", u32::from(number))?;
-                show::given(rt, body)?;
-                let answer = Answer(calls::modify(desk, table, shelf, number, body));
-                println!(rt; ": {answer}")
+                let answer = calls::modify(desk, table, shelf, number, body);
+                changed(rt, "modify", number, body, answer)
             }
             Call::Delete(number) => {
                 let answer = Answer(calls::delete(desk, table, shelf, number));
@@ -79,4 +75,17 @@ impl Store {
             }
         }
     }
+}
+
+// The line of a call that is given a number and a body.
+fn changed(
+    rt: &impl Print,
+    name: &str,
+    number: RecordNumber,
+    body: &[u8],
+    answer: ChangeAnswer,
+) -> io::Result<()> {
+    print!(rt; "{name} {}", u32::from(number))?;
+    show::given(rt, body)?;
+    println!(rt; ": {}", Answer(answer))
 }

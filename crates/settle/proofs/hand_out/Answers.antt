@@ -8,4 +8,4 @@ returns c =
     let s = c.args.shelf.now in
     let scan = c.args.scan in
     let taken = c.take.ensures d in
-    (handed_on_lem d t s scan.position.0 c.requires.0 c.requires.1 c.args.looks c.requires.5 _ _ _ (c.go_on.ensures s) taken.0, taken.1)
+    (handed_on_lem d t s scan.position c.go_on.ensures.0 c.requires.0 c.args.looks c.requires.4 _ _ _ (c.go_on.ensures.1 s) taken.0, taken.1)

@@ -5,4 +5,4 @@ use Rattle.settle.proofs.move_on.Goals as goal
 pub returns : goal.returns
 unfolding store_of
 returns c =
-    λ s. rw (add-zero c.args.scan.card.handed) at (c.go_on.ensures s (slots_of c.args.table.now) (slots_of s))
+    λ s. rw (add-zero c.args.scan.card.handed) at (c.go_on.ensures.1 s (slots_of c.args.table.now) (slots_of s))

@@ -12,25 +12,25 @@ unfolding own_right looks_at_desk refused_as out_of
 returns-in_err-way_in c =
     rw (refused-on begin_tells c.from_residual.result c.in_err-way_in.field-0.0 c.from_residual.ensures.1) (by_way Call.begin refl refl c.in_err-way_in.field-0.0 c.in_err-way_in.ensures)
 
-pub returns-in_default : goal.returns-in_default
+pub unwrap-desk-requires : goal.unwrap-desk-requires
 unfolding own_right looks_at_desk
-returns-in_default c =
-    let none = c.in_default in
+unwrap-desk-requires c =
     let through = let_through Call.begin refl refl c.in_ok-way_in.ensures.1 (λ j. search rules) (λ j. search rules) (λ j. search rules) in
-    absurd (none.ensures.cases (by_lengths through).desk)
+    let e = (by_lengths through).desk in
+    search rules
 
 pub begin-requires : goal.begin-requires
 unfolding own_right looks_at_desk
 begin-requires c =
     let args = c.args in
-    let some = c.in-Some in
+    let same = (rw c.unwrap-desk.ensures at c.as_mut_array.ensures.cases).same in
     let through = let_through Call.begin refl refl c.in_ok-way_in.ensures.1 (λ j. search rules) (λ j. search rules) (λ j. search rules) in
-    rw some.ensures.cases.same (n_most args.desk.now args.table.now args.shelf.now (by_sound through refl))
+    rw same (n_most args.desk.now args.table.now args.shelf.now (by_sound through refl))
 
 pub returns : goal.returns
 unfolding own_right looks_at_desk
 returns c =
     let args = c.args in
-    let some = c.in-Some in
+    let same = (rw c.unwrap-desk.ensures at c.as_mut_array.ensures.cases).same in
     let through = let_through Call.begin refl refl c.in_ok-way_in.ensures.1 (λ j. search rules) (λ j. search rules) (λ j. search rules) in
-    by_rule through (search rules) refl refl (λ j. search rules) through.table_bytes through.shelf_bytes (rw some.ensures.cases.same at (c.begin.ensures args.table.now args.shelf.now))
+    by_rule through (search rules) refl refl (λ j. search rules) through.table_bytes through.shelf_bytes (rw same at (c.begin.ensures args.table.now args.shelf.now))

@@ -22,27 +22,27 @@ returns-in_err-way_in c =
     rw (refused-on next_tells c.from_residual.result c.in_err-way_in.field-0.0 c.from_residual.ensures.1, some.ensures.cases.same)
     (by_way (Call.next c.args.ticket.0 c.args.budget c.args.out.now) (eq-eqb (length c.args.out.now) 56 some.ensures.cases.long) refl c.in_err-way_in.field-0.0 c.in_err-way_in.ensures)
 
-pub returns-in_default-as_mut_array : goal.returns-in_default-as_mut_array
+pub unwrap-desk-requires : goal.unwrap-desk-requires
 unfolding own_right looks_at_desk
-returns-in_default-as_mut_array c =
+unwrap-desk-requires c =
     let some = c.in-Some in
-    let none = c.in_default-as_mut_array in
     let through = let_through (Call.next c.args.ticket.0 c.args.budget c.args.out.now) (eq-eqb (length c.args.out.now) 56 some.ensures.cases.long) refl c.in_ok-way_in.ensures.1 (λ j. search rules) (λ j. search rules) (λ j. search rules) in
-    absurd (none.ensures.cases (by_lengths through).desk)
+    let e = (by_lengths through).desk in
+    search rules
 
 pub next-requires : goal.next-requires
 unfolding own_right looks_at_desk
 next-requires c =
     let some = c.in-Some in
-    let whole = c.in-Some-as_mut_array in
+    let same = (rw c.unwrap-desk.ensures at c.as_mut_array-2.ensures.cases).same in
     let through = let_through (Call.next c.args.ticket.0 c.args.budget c.args.out.now) (eq-eqb (length c.args.out.now) 56 some.ensures.cases.long) refl c.in_ok-way_in.ensures.1 (λ j. search rules) (λ j. search rules) (λ j. search rules) in
     let z = by_lengths through in
-    rw whole.ensures.cases.same (z.desk, omega (arith, z.slots, z.entries), by_sound through refl)
+    rw same (z.desk, omega (arith, z.slots, z.entries), by_sound through refl)
 
 pub returns : goal.returns
 unfolding own_right looks_at_desk
 returns c =
     let some = c.in-Some in
-    let whole = c.in-Some-as_mut_array in
+    let same = (rw c.unwrap-desk.ensures at c.as_mut_array-2.ensures.cases).same in
     let through = let_through (Call.next c.args.ticket.0 c.args.budget c.args.out.now) (eq-eqb (length c.args.out.now) 56 some.ensures.cases.long) refl c.in_ok-way_in.ensures.1 (λ j. search rules) (λ j. search rules) (λ j. search rules) in
-    by_rule through (search rules) (search rules) (search rules) (λ j. search rules) (λ j. search rules) (λ j. search rules) (rw (whole.ensures.cases.same, some.ensures.cases.same) at c.next.ensures)
+    by_rule through (search rules) (search rules) (search rules) (λ j. search rules) (λ j. search rules) (λ j. search rules) (rw (same, some.ensures.cases.same) at c.next.ensures)

@@ -12,11 +12,12 @@ returns-then-not-lengths_right c =
     let args = c.args in
     by_refusal (Call.opening args.n) (way_wrong true false args.desk.now args.table.now args.shelf.now c.lengths_right.ensures c.if-not-lengths_right.true) (λ e. absurd (omega (arith, e)))
 
-pub returns-in_default : goal.returns-in_default
-returns-in_default c =
+pub unwrap-desk-requires : goal.unwrap-desk-requires
+unwrap-desk-requires c =
     let args = c.args in
-    let none = c.in_default in
-    absurd (none.ensures.cases (way_lengths true false args.desk.now args.table.now args.shelf.now c.lengths_right.ensures c.if-not-lengths_right.false).desk)
+    let z = way_lengths true false args.desk.now args.table.now args.shelf.now c.lengths_right.ensures c.if-not-lengths_right.false in
+    let e = z.desk in
+    search rules
 
 pub open-requires : goal.open-requires
 open-requires c =
@@ -28,6 +29,6 @@ pub returns : goal.returns
 unfolding own_right looks_at_desk
 returns c =
     let args = c.args in
-    let some = c.in-Some in
+    let same = (rw c.unwrap-desk.ensures at c.as_mut_array.ensures.cases).same in
     let through = let_in (Call.opening args.n) (way_blind true false args.desk.now args.table.now args.shelf.now c.lengths_right.ensures c.if-not-lengths_right.false refl) refl (λ j. search rules) (λ j. search rules) (λ j. search rules) in
-    by_rule through (search rules) (search rules) (search rules) (λ j. search rules) (λ j. search rules) (λ j. search rules) (rw some.ensures.cases.same at c.«open».ensures)
+    by_rule through (search rules) (search rules) (search rules) (λ j. search rules) (λ j. search rules) (λ j. search rules) (rw same at c.«open».ensures)

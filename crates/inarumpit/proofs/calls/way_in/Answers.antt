@@ -1,6 +1,7 @@
 use native.Mathlib.Omega.{arith}
 use mathlib.Core.Bool.{true}
 use mathlib.Core.Path.{refl}
+use Rattle.std.proofs.Common.{rules}
 use Rattle.rules.specs.Answers.{number_of}
 use Rattle.inarumpit.proofs.Replies.{way_wrong, way_lengths, way_unsound, way_open}
 use Rattle.inarumpit.proofs.calls.way_in.Goals as goal
@@ -11,12 +12,12 @@ returns-then-not-lengths_right c =
     let args = c.args in
     way_wrong true true args.desk.now args.table.now args.shelf.now c.lengths_right.ensures c.if-not-lengths_right.true
 
-pub returns-in_default : goal.returns-in_default
-returns-in_default c =
+pub unwrap-whole-requires : goal.unwrap-whole-requires
+unwrap-whole-requires c =
     let args = c.args in
     let z = way_lengths true true args.desk.now args.table.now args.shelf.now c.lengths_right.ensures c.if-not-lengths_right.false in
-    let none = c.in_default in
-    absurd (none.ensures.cases z.desk)
+    let e = z.desk in
+    search rules
 
 pub is_sound-requires : goal.is_sound-requires
 is_sound-requires c =
@@ -28,11 +29,11 @@ pub returns-then-not-is_sound : goal.returns-then-not-is_sound
 unfolding number_of
 returns-then-not-is_sound c =
     let args = c.args in
-    let some = c.in-Some in
-    way_unsound true true args.desk.now args.table.now args.shelf.now c.lengths_right.ensures c.if-not-lengths_right.false refl (rw some.ensures.cases.same at c.is_sound.ensures) c.if-not-is_sound.true
+    let same = (rw c.unwrap-whole.ensures at c.as_array.ensures.cases).same in
+    way_unsound true true args.desk.now args.table.now args.shelf.now c.lengths_right.ensures c.if-not-lengths_right.false refl (rw same at c.is_sound.ensures) c.if-not-is_sound.true
 
 pub returns : goal.returns
 returns c =
     let args = c.args in
-    let some = c.in-Some in
-    (some.ensures.cases.same, way_open true true args.desk.now args.table.now args.shelf.now c.lengths_right.ensures c.if-not-lengths_right.false refl (rw some.ensures.cases.same at c.is_sound.ensures) c.if-not-is_sound.false)
+    let same = (rw c.unwrap-whole.ensures at c.as_array.ensures.cases).same in
+    (same, way_open true true args.desk.now args.table.now args.shelf.now c.lengths_right.ensures c.if-not-lengths_right.false refl (rw same at c.is_sound.ensures) c.if-not-is_sound.false)

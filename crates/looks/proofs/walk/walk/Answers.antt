@@ -5,7 +5,7 @@ use Rattle.looks.proofs.walk.walk.Goals as goal
 
 pub loop-i-preserved-then-not-in_use : goal.loop-i-preserved-then-not-in_use
 loop-i-preserved-then-not-in_use c =
-    rw c.from-i.ensures (empty_on c.args.slots.now c.args.scan.flip c.args.scan.position.0 (omega (arith, c.min-stop.ensures, c.slot_count-end.ensures)) c.loop-i.invariant (omega (arith, c.if-i-stop.false)) (sym c.in_use.ensures ∙ c.if-not-in_use.true) c.past_empty.ensures)
+    rw c.from-i.ensures (empty_on c.args.slots.now c.args.scan.flip c.args.scan.position (omega (arith, c.min-stop.ensures, c.slot_count-end.ensures)) c.loop-i.invariant (omega (arith, c.if-i-stop.false)) (sym c.in_use.ensures ∙ c.if-not-in_use.true) c.past_empty.ensures)
 
 pub returns-else-stop-end : goal.returns-else-stop-end
 returns-else-stop-end c =
