@@ -47,7 +47,10 @@ pub fn modify(
         return Err(Refusal::NotThere);
     };
     let masks = desk::masks_at(desk);
-    let kept = shelving::keep(masks, table, shelf, there)?;
+    // Modify tells the 8 itself and hands none on, so that an edit can turn it apart from delete's.
+    let Ok(kept) = shelving::keep(masks, table, shelf, there) else {
+        return Err(Refusal::ShelfFull);
+    };
     slots::write::put_body(table, there, body);
     match kept {
         Kept::Unawaited => {}

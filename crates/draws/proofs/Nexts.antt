@@ -32,16 +32,10 @@ module _ (d t s : List ℕ) (k b : ℕ) (o : List ℕ) where
 
 -- ---- the scan at p goes on
 
-module _ (d t s : List ℕ) (b : ℕ) (o : List ℕ) (ready : Ready d t s) {p : ℕ} (runs : Runs d p) {c : Card} (ec : c ≡ card_at d p) {m : Masks} (em : m ≡ masks_of d) {w : Walked}
-    (ew : w ≡ walked_of (hit_in m.stable p (slots_of t) (slots_of s)) c.place b (length t / 64 + length s / 64)) where
+module _ (d t s : List ℕ) (b : ℕ) (o : List ℕ) {p : ℕ} (below : p < 64) {c : Card} (ec : c ≡ card_at d p) {m : Masks} (em : m ≡ masks_of d)
+    (fits : c.place ≤ length t / 64 + length s / 64) {w : Walked} (ew : w ≡ walked_of (hit_in m.stable p (slots_of t) (slots_of s)) c.place b (length t / 64 + length s / 64)) where
   abbrev stop : ℕ
   stop = stop_of (hit_in m.stable p (slots_of t) (slots_of s)) c.place b (length t / 64 + length s / 64)
-
-  below : p < 64
-  below = runs.0
-
-  fits : c.place ≤ length t / 64 + length s / 64
-  fits = scan_fits d t s ready.2 runs ec
 
   stops : stop_at (store_of d t s) p b ≡ stop
   stops = stop_is d t s below ec (ap (λ (v : Masks). v.stable) em) b
@@ -50,10 +44,6 @@ module _ (d t s : List ℕ) (b : ℕ) (o : List ℕ) (ready : Ready d t s) {p : 
   module _ (seen : w.seen ≡ Seen.Record) where
     says : (stop < min (c.place + b) (length t / 64 + length s / 64)) × (w.looks ≡ suc stop - c.place) × (w.left ≡ b - (suc stop - c.place))
     says = record_says (hit_in m.stable p (slots_of t) (slots_of s)) c.place b (length t / 64 + length s / 64) ew seen
-
-    pub can_hand_out : CanHandOut d t s p c m w.looks
-    can_hand_out =
-        (ec, em, record_fits (hit_in m.stable p (slots_of t) (slots_of s)) c.place b (length t / 64 + length s / 64) ew seen, omega (arith, ready.1), record_some (hit_in m.stable p (slots_of t) (slots_of s)) c.place b (length t / 64 + length s / 64) ew seen, omega (arith, fits, scan_handed d t s ready.2 runs ec, ready.1))
 
     pub nexts_record : (d' t' s' : List ℕ) {o' : List ℕ}
         → (store_of d' t' s' ≡ took (store_of d t s) p (c.place + w.looks - 1)) × (o' ≡ version (here (store_of d t s) (c.place + w.looks - 1)))
@@ -72,9 +62,6 @@ module _ (d t s : List ℕ) (b : ℕ) (o : List ℕ) (ready : Ready d t s) {p : 
     spent : (min (c.place + b) (length t / 64 + length s / 64) ≤ stop) × (c.place + b < length t / 64 + length s / 64) × (w.looks ≡ b)
     spent = spent_says (hit_in m.stable p (slots_of t) (slots_of s)) c.place b (length t / 64 + length s / 64) ew seen
 
-    pub can_move_on : CanGoOn d p c m (c.place + w.looks)
-    can_move_on = (ec, em, omega (arith, spent_fits (hit_in m.stable p (slots_of t) (slots_of s)) c.place b (length t / 64 + length s / 64) ew seen, ready.1))
-
     pub nexts_spent : (d' : List ℕ) → store_of d' t s ≡ moved_to (store_of d t s) p (c.place + w.looks) c.handed (slots_of t) (slots_of s)
         → told (Answer.drew (Draw.paused w.looks)) (store_of d' t s) o ≡ walk (store_of d t s) p b 0 o
     nexts_spent d' e =
@@ -91,9 +78,6 @@ module _ (d t s : List ℕ) (b : ℕ) (o : List ℕ) (ready : Ready d t s) {p : 
         × (w.left ≡ b - (length t / 64 + length s / 64 - c.place))
     ended = end_says (hit_in m.stable p (slots_of t) (slots_of s)) c.place b (length t / 64 + length s / 64) ew seen
 
-    pub can_finish : CanGoOn d p c m (c.place + w.looks)
-    can_finish = (ec, em, omega (arith, end_at (hit_in m.stable p (slots_of t) (slots_of s)) c.place b (length t / 64 + length s / 64) ew seen fits, ready.1))
-
     pub nexts_end : (d' : List ℕ) → store_of d' t s ≡ finish (moved_to (store_of d t s) p (c.place + w.looks) c.handed (slots_of t) (slots_of s)) p
         → told (Answer.drew (Draw.finished w.looks w.left c.handed)) (store_of d' t s) o ≡ walk (store_of d t s) p b 0 o
     nexts_end d' e =
@@ -107,3 +91,20 @@ module _ (d t s : List ℕ) (b : ℕ) (o : List ℕ) (ready : Ready d t s) {p : 
       where
         over : ℕ → ℕ → ℕ → List Slot → List Slot → Told
         over end place h tb sf = told (Answer.drew (Draw.finished (end - place) (b - (end - place)) h)) (finish (moved_to (store_of d t s) p end h tb sf) p) o
+
+-- ---- what the scan at p is asked for, where it runs
+
+module _ (d t s : List ℕ) (b : ℕ) (o : List ℕ) (ready : Ready d t s) {p : ℕ} (runs : Runs d p) {c : Card} (ec : c ≡ card_at d p) {m : Masks} (em : m ≡ masks_of d) {w : Walked}
+    (ew : w ≡ walked_of (hit_in m.stable p (slots_of t) (slots_of s)) c.place b (length t / 64 + length s / 64)) where
+  fits : c.place ≤ length t / 64 + length s / 64
+  fits = scan_fits d t s ready.2 runs ec
+
+  pub can_hand_out : w.seen ≡ Seen.Record → CanHandOut d t s p c m w.looks
+  can_hand_out seen =
+      (ec, em, record_fits (hit_in m.stable p (slots_of t) (slots_of s)) c.place b (length t / 64 + length s / 64) ew seen, omega (arith, ready.1), record_some (hit_in m.stable p (slots_of t) (slots_of s)) c.place b (length t / 64 + length s / 64) ew seen, omega (arith, fits, scan_handed d t s ready.2 runs ec, ready.1))
+
+  pub can_move_on : w.seen ≡ Seen.Spent → CanGoOn d p c m (c.place + w.looks)
+  can_move_on seen = (ec, em, omega (arith, spent_fits (hit_in m.stable p (slots_of t) (slots_of s)) c.place b (length t / 64 + length s / 64) ew seen, ready.1))
+
+  pub can_finish : w.seen ≡ Seen.End → CanGoOn d p c m (c.place + w.looks)
+  can_finish seen = (ec, em, omega (arith, end_at (hit_in m.stable p (slots_of t) (slots_of s)) c.place b (length t / 64 + length s / 64) ew seen fits, ready.1))

@@ -46,6 +46,14 @@ looks_places h from b end there = go (ways h from b end)
     go (spent x y) = omega (arith, ap (λ (w : Walked). w.looks) (spends h from b end x y))
     go (ended x y) = omega (arith, ap (λ (w : Walked). w.looks) (ends h from b end x y))
 
+pub looks-budget : (h : ℕ → Bool) (from b end : ℕ) → (walked_of h from b end).looks ≤ b
+looks-budget h from b end = go (ways h from b end)
+  where
+    go : Ways h from b end → (walked_of h from b end).looks ≤ b
+    go (hit x) = omega (arith, ap (λ (w : Walked). w.looks) (hits h from b end x))
+    go (spent x y) = omega (arith, ap (λ (w : Walked). w.looks) (spends h from b end x y))
+    go (ended x y) = omega (arith, ap (λ (w : Walked). w.looks) (ends h from b end x y))
+
 -- ---- a walk that is d looks and then another walk, c places on
 
 module _ (h g : ℕ → Bool) (from b end f m e c d : ℕ) (at : from + d ≡ c + f) (eb : b ≡ d + m) (ee : end ≡ c + e) (within : f ≤ e) (es : stop_of h from b end ≡ c + stop_of g f m e) where

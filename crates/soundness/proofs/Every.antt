@@ -34,6 +34,12 @@ unfolding every
 every-same p q i zero f = refl
 every-same p q i (suc n) f = rw (f i (omega arith) (omega arith), every-same p q (suc i) n (λ k a b. f k (omega arith) (omega arith))) refl
 
+-- a test from b on, by the distance from b
+pub every_shift : (p : ℕ → Bool) (b i n : ℕ) → every (λ k. p (b + k)) i n ≡ every p (b + i) n
+unfolding every
+every_shift p b i zero = refl
+every_shift p b i (suc n) = rw (every_shift p b (suc i) n, add-suc b i) refl
+
 -- the numbers two by two
 pub every_pairs : (p : ℕ → Bool) (b i n : ℕ) → every (λ k. p (b + k * 2) && p (b + k * 2 + 1)) i n ≡ every p (b + i * 2) (n * 2)
 unfolding every

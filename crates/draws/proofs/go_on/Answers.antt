@@ -28,16 +28,19 @@ pub returns-in-Record : goal.returns-in-Record
 unfolding draw_of
 returns-in-Record c =
     let args = c.args in
-    nexts_record args.desk.now args.table.now args.shelf.now args.budget args.out.now c.requires.0 c.requires.1 c.card_at-card.ensures c.masks_at-masks.ensures c.seek-walked.ensures c.in-Record.is _ _ _ c.hand_out.ensures
+    let fits = scan_fits args.desk.now args.table.now args.shelf.now c.requires.0.2 c.requires.1 c.card_at-card.ensures in
+    nexts_record args.desk.now args.table.now args.shelf.now args.budget args.out.now c.requires.1.0 c.card_at-card.ensures c.masks_at-masks.ensures fits c.seek-walked.ensures c.in-Record.is _ _ _ c.hand_out.ensures
 
 pub returns-in-Spent : goal.returns-in-Spent
 unfolding draw_of
 returns-in-Spent c =
     let args = c.args in
-    nexts_spent args.desk.now args.table.now args.shelf.now args.budget args.out.now c.requires.0 c.requires.1 c.card_at-card.ensures c.masks_at-masks.ensures c.seek-walked.ensures c.in-Spent.is _ (c.move_on.ensures args.shelf.now)
+    let fits = scan_fits args.desk.now args.table.now args.shelf.now c.requires.0.2 c.requires.1 c.card_at-card.ensures in
+    nexts_spent args.desk.now args.table.now args.shelf.now args.budget args.out.now c.requires.1.0 c.card_at-card.ensures c.masks_at-masks.ensures fits c.seek-walked.ensures c.in-Spent.is _ (c.move_on.ensures args.shelf.now)
 
 pub returns-in-End : goal.returns-in-End
 unfolding draw_of
 returns-in-End c =
     let args = c.args in
-    nexts_end args.desk.now args.table.now args.shelf.now args.budget args.out.now c.requires.0 c.requires.1 c.card_at-card.ensures c.masks_at-masks.ensures c.seek-walked.ensures c.in-End.is _ (c.finish.ensures args.shelf.now)
+    let fits = scan_fits args.desk.now args.table.now args.shelf.now c.requires.0.2 c.requires.1 c.card_at-card.ensures in
+    nexts_end args.desk.now args.table.now args.shelf.now args.budget args.out.now c.requires.1.0 c.card_at-card.ensures c.masks_at-masks.ensures fits c.seek-walked.ensures c.in-End.is _ (c.finish.ensures args.shelf.now)
