@@ -38,21 +38,20 @@ ways h from b end = go (dec_lt (stop_of h from b end) (min (from + b) end)) (dec
 
 -- ---- the looks of a walk
 
-looks_places : (h : ℕ → Bool) (from b end : ℕ) → from ≤ end → (walked_of h from b end).looks ≤ end - from
-looks_places h from b end there = go (ways h from b end)
+-- at most the places to the end, and at most the budget
+looks_most : (h : ℕ → Bool) (from b end : ℕ) → from ≤ end → ((walked_of h from b end).looks ≤ end - from) × ((walked_of h from b end).looks ≤ b)
+looks_most h from b end there = go (ways h from b end)
   where
-    go : Ways h from b end → (walked_of h from b end).looks ≤ end - from
-    go (hit x) = omega (arith, ap (λ (w : Walked). w.looks) (hits h from b end x))
-    go (spent x y) = omega (arith, ap (λ (w : Walked). w.looks) (spends h from b end x y))
-    go (ended x y) = omega (arith, ap (λ (w : Walked). w.looks) (ends h from b end x y))
+    go : Ways h from b end → ((walked_of h from b end).looks ≤ end - from) × ((walked_of h from b end).looks ≤ b)
+    go (hit x) = let e = ap (λ (w : Walked). w.looks) (hits h from b end x) in (omega (arith, e), omega (arith, e))
+    go (spent x y) = let e = ap (λ (w : Walked). w.looks) (spends h from b end x y) in (omega (arith, e), omega (arith, e))
+    go (ended x y) = let e = ap (λ (w : Walked). w.looks) (ends h from b end x y) in (omega (arith, e), omega (arith, e))
 
-pub looks-budget : (h : ℕ → Bool) (from b end : ℕ) → (walked_of h from b end).looks ≤ b
-looks-budget h from b end = go (ways h from b end)
-  where
-    go : Ways h from b end → (walked_of h from b end).looks ≤ b
-    go (hit x) = omega (arith, ap (λ (w : Walked). w.looks) (hits h from b end x))
-    go (spent x y) = omega (arith, ap (λ (w : Walked). w.looks) (spends h from b end x y))
-    go (ended x y) = omega (arith, ap (λ (w : Walked). w.looks) (ends h from b end x y))
+looks_places : (h : ℕ → Bool) (from b end : ℕ) → from ≤ end → (walked_of h from b end).looks ≤ end - from
+looks_places h from b end there = (looks_most h from b end there).0
+
+pub looks-budget : (h : ℕ → Bool) (from b end : ℕ) → from ≤ end → (walked_of h from b end).looks ≤ b
+looks-budget h from b end there = (looks_most h from b end there).1
 
 -- ---- a walk that is d looks and then another walk, c places on
 
